@@ -1,0 +1,63 @@
+// Sets of rows as numbers, bit j for row j: whether a row is in one, how many of its rows stand below a row, and which comes next.
+ghost use mathlib.Core.Path.{_≡_};
+ghost use Prim.Native.Nat.{_-_, _*_, _≤_};
+ghost use Rattle.sets.specs.Sets.{member, below, nextIn};
+
+// What a search from a place finds: a row, or that no row is left.
+pub enum Next {
+    At(u32),
+    Nothing,
+}
+
+// Whether a row is in the set. A set has 64 bits, so no row from 64 on is.
+pub fn contains(set: u64, row: u32) -> bool
+    ensures { λ r. ⌜ r ≡ member set row ⌝ }
+{
+    if 64 <= row {
+        return false;
+    }
+    (set >> row) % 2 == 1
+}
+
+// How many rows are in the set.
+pub fn size(set: u64) -> usize
+    ensures { λ r. ⌜ r ≡ below set 64 ⌝ }
+    ensures { λ r. ⌜ r ≤ 64 ⌝ }
+{
+    u64::count_ones(set) as usize
+}
+
+// How many rows of the set stand below a row: the ones of what is left after division by the row's bit.
+pub fn below_row(set: u64, row: u32) -> usize
+    ensures { λ r. ⌜ r ≡ below set row ⌝ }
+    ensures { λ r. ⌜ r ≤ 64 ⌝ }
+{
+    if 64 <= row {
+        return size(set);
+    }
+    let one: u64 = 1;
+    u64::count_ones(set % (one << row)) as usize
+}
+
+// How far a row's gap stands behind the first gap, at two bytes a gap, lowest row first.
+pub fn gap_place(set: u64, row: u32) -> usize
+    ensures { λ r. ⌜ r ≡ 2 * below set row ⌝ }
+    ensures { λ r. ⌜ r ≤ 128 ⌝ }
+{
+    2 * below_row(set, row)
+}
+
+// The first row of the set at a place or after it.
+pub fn next_from(set: u64, from: u32) -> Next
+    ensures { λ r. ⌜ r ≡ nextIn (64 - from) set from ⌝ }
+{
+    if 64 <= from {
+        return Next::Nothing;
+    }
+    let rest = set >> from;
+    if rest == 0 {
+        return Next::Nothing;
+    }
+    let row = from + u64::trailing_zeros(rest);
+    Next::At(row)
+}
