@@ -8,7 +8,7 @@ use native.Mathlib.Omega.{arith}
 use lib.Arith.{lt-one}
 use lib.Dec.{lit<}
 use lib.Pow.{pow-pos, shl-exact, mod-pow-add}
-use lib.Count.{ones, ones-cat, ones-le}
+use lib.Count.{ones, ones-cat}
 use Rattle.sets.specs.Sets.{bit, below}
 use Rattle.sets.proofs.Bits.{bit-zero-past}
 
@@ -70,7 +70,7 @@ ones-below s (suc j) =
 pub ones-all : (w s : ℕ) → s < 2 ^ w → ones s ≡ below s w
 ones-all w s h = ap ones (sym (mod-eq-of-lt h)) ∙ ones-below s w
 
--- The bit of row j as a shift makes it in a word of w bits, and the low part of the set below it.
+-- The bit of row j as a shift makes it in a word of w bits, and the part of the set below that bit.
 module _ (w s j : ℕ) (f : s < 2 ^ w) (h : j < w) where
   mask : (1 * 2 ^ j) % 2 ^ w ≡ 2 ^ j
   mask = shl-exact 1 j w (lit< tt) (omega arith) ∙ one-mul (2 ^ j)
@@ -78,8 +78,8 @@ module _ (w s j : ℕ) (f : s < 2 ^ w) (h : j < w) where
   pub mask-pos : 0 < (1 * 2 ^ j) % 2 ^ w
   mask-pos = rw mask (pow-pos j)
 
-  pub low-ones : ones (s % ((1 * 2 ^ j) % 2 ^ w)) ≡ below s j
-  low-ones = rw mask (ones-below s j)
-
-  pub low-le : ones (s % ((1 * 2 ^ j) % 2 ^ w)) ≤ w
-  low-le = ones-le w (s % ((1 * 2 ^ j) % 2 ^ w)) (lt-of-le-of-lt (mod-le s ((1 * 2 ^ j) % 2 ^ w)) f)
+  -- the low part has the rows below j and no other
+  pub below-low : below (s % ((1 * 2 ^ j) % 2 ^ w)) w ≡ below s j
+  below-low =
+      let low : ℕ = s % ((1 * 2 ^ j) % 2 ^ w) in
+      sym (ones-all w low (lt-of-le-of-lt (mod-le s ((1 * 2 ^ j) % 2 ^ w)) f)) ∙ rw mask (ones-below s j)

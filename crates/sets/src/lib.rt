@@ -13,10 +13,10 @@ pub enum Next {
 pub fn contains(set: u64, row: u32) -> bool
     ensures { λ r. ⌜ r ≡ member set row ⌝ }
 {
-    if 64 <= row {
-        return false;
+    if row < 64 {
+        return (set >> row) % 2 == 1;
     }
-    (set >> row) % 2 == 1
+    false
 }
 
 // How many rows are in the set.
@@ -27,7 +27,7 @@ pub fn size(set: u64) -> usize
     u64::count_ones(set) as usize
 }
 
-// How many rows of the set stand below a row: the ones of what is left after division by the row's bit.
+// How many rows of the set stand below a row. The remainder by the row's bit keeps those rows and no other.
 pub fn below_row(set: u64, row: u32) -> usize
     ensures { λ r. ⌜ r ≡ below set row ⌝ }
     ensures { λ r. ⌜ r ≤ 64 ⌝ }
@@ -36,7 +36,7 @@ pub fn below_row(set: u64, row: u32) -> usize
         return size(set);
     }
     let one: u64 = 1;
-    u64::count_ones(set % (one << row)) as usize
+    size(set % (one << row))
 }
 
 // How far a row's gap stands behind the first gap, at two bytes a gap, lowest row first.

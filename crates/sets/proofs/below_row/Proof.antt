@@ -1,8 +1,7 @@
--- `sets::below_row` meets its contract: the rows below a row are the ones of the low part of the set, and past row 64 all of its rows.
+-- `sets::below_row` meets its contract: the low part of the set has the rows below a row and no other, and from row 64 on these are all rows of the set.
 use borrow.Author.Needs.{needs}
 use mathlib.Core.Path.{sym, _∙_}
-use native.Mathlib.Omega.{arith}
-use Rattle.sets.proofs.Counts.{below-past, mask-pos, low-ones, low-le}
+use Rattle.sets.proofs.Counts.{below-past, mask-pos, below-low}
 use Rattle.sets.proofs.below_row.Statement.{statement}
 use Rattle.sets.proofs.below_row.Tie as tie
 
@@ -11,25 +10,23 @@ size-requires c κs = search needs
 
 returns : tie.Need-returns
 returns c =
-    let start = c .before .before in
-    (c .size .ensures .0 ∙ sym (below-past 64 (start .args .set) (start .args .row) (search needs) (c .before .if1 .taken)), c .size .ensures .1)
+    let all = c .size .ensures in
+    (all .0 ∙ sym (below-past 64 (c .before .before .args .set) (c .before .before .args .row) (search needs) (c .before .if1 .taken)), all .1)
 
-shl-result : tie.Need-shl-result
-shl-result c = search needs
+shl-size : tie.Need-shl-size
+shl-size c = search needs
 
-rem-result : tie.Need-rem-result
-rem-result c = mask-pos 64 (c .before .args .set) (c .before .args .row) (search needs) (search needs)
+rem-size : tie.Need-rem-size
+rem-size c = mask-pos 64 (c .before .args .set) (c .before .args .row) (search needs) (search needs)
 
-cast-result : tie.Need-cast-result
-cast-result c = omega (arith, low-le 64 (c .before .args .set) (c .before .args .row) (search needs) (search needs))
+size-requires-2 : tie.Need-size-requires-2
+size-requires-2 c κs = search needs
 
 returns-2 : tie.Need-returns-2
 returns-2 c =
-    let start = c .before in (
-      low-ones 64 (start .args .set) (start .args .row) (search needs) (search needs),
-      low-le 64 (start .args .set) (start .args .row) (search needs) (search needs),
-    )
+    let low = c .size2 .ensures in
+    (low .0 ∙ below-low 64 (c .before .before .args .set) (c .before .before .args .row) (search needs) (search needs), low .1)
 
 pub below-row-spec : {M : Type 1} → statement M
 below-row-spec =
-    tie.close (tie.spec size-requires returns shl-result rem-result cast-result returns-2)
+    tie.close (tie.spec size-requires returns shl-size rem-size size-requires-2 returns-2)
