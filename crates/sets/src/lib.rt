@@ -5,12 +5,12 @@ ghost use Rattle.sets.specs.Sets.{member, below, nextIn};
 
 // What a search from a place finds: a row, or that no row is left.
 pub enum Next {
-    At(u32),
+    At(usize),
     Nothing,
 }
 
 // Whether a row is in the set. A set has 64 bits, so no row from 64 on is.
-pub fn contains(set: u64, row: u32) -> bool
+pub fn contains(set: u64, row: usize) -> bool
     ensures { λ r. ⌜ r ≡ member set row ⌝ }
 {
     if row < 64 {
@@ -28,7 +28,7 @@ pub fn size(set: u64) -> usize
 }
 
 // How many rows of the set stand below a row. The remainder by the row's bit keeps those rows and no other.
-pub fn below_row(set: u64, row: u32) -> usize
+pub fn below_row(set: u64, row: usize) -> usize
     ensures { λ r. ⌜ r ≡ below set row ⌝ }
     ensures { λ r. ⌜ r ≤ 64 ⌝ }
 {
@@ -40,7 +40,7 @@ pub fn below_row(set: u64, row: u32) -> usize
 }
 
 // How far a row's gap stands behind the first gap, at two bytes a gap, lowest row first.
-pub fn gap_place(set: u64, row: u32) -> usize
+pub fn gap_place(set: u64, row: usize) -> usize
     ensures { λ r. ⌜ r ≡ 2 * below set row ⌝ }
     ensures { λ r. ⌜ r ≤ 128 ⌝ }
 {
@@ -48,7 +48,7 @@ pub fn gap_place(set: u64, row: u32) -> usize
 }
 
 // The first row of the set at a place or after it.
-pub fn next_from(set: u64, from: u32) -> Next
+pub fn next_from(set: u64, from: usize) -> Next
     ensures { λ r. ⌜ r ≡ nextIn (64 - from) set from ⌝ }
 {
     if 64 <= from {
@@ -58,6 +58,6 @@ pub fn next_from(set: u64, from: u32) -> Next
     if rest == 0 {
         return Next::Nothing;
     }
-    let row = from + u64::trailing_zeros(rest);
+    let row = from + u64::trailing_zeros(rest) as usize;
     Next::At(row)
 }

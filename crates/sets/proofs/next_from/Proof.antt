@@ -17,6 +17,9 @@ shr-rest c = search needs
 returns-2 : tie.Need-returns-2
 returns-2 c = sym (none _ _ _ (c .if2 .taken))
 
+cast-row : tie.Need-cast-row
+cast-row c = omega (arith, trailing-le 64 (c .before .before .args .set / 2 ^ c .before .before .args .from))
+
 add-row : tie.Need-add-row
 add-row c = omega (arith, trailing-le 64 (c .before .before .args .set / 2 ^ c .before .before .args .from))
 
@@ -24,4 +27,4 @@ returns-3 : tie.Need-returns-3
 returns-3 c = sym (some-at 64 _ _ (search needs) (c .if2 .left))
 
 pub next-from-spec : {M : Type 1} → statement M
-next-from-spec = tie.close (tie.spec returns shr-rest returns-2 add-row returns-3)
+next-from-spec = tie.close (tie.spec returns shr-rest returns-2 cast-row add-row returns-3)
