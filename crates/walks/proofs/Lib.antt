@@ -1,0 +1,5 @@
+pub mod Tests
+pub mod Folds
+pub mod Seeking
+pub mod Sequences
+pub mod Unique
