@@ -3,3 +3,11 @@ pub mod Folds
 pub mod Seeking
 pub mod Sequences
 pub mod Unique
+pub mod ByInterval
+pub mod ByAmount
+pub mod Witness
+pub mod Filling
+pub mod Existence
+pub mod Agreement
+pub mod Margins
+pub mod Verdicts

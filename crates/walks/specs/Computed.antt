@@ -1,9 +1,10 @@
 -- The same notions as functions that compute. No public contract cites this page: it serves the starred table and the inner contracts of the tables' code.
 use mathlib.Core.Bool.{Bool, cond, _&&_, _||_}
 use mathlib.Core.List.{List, [], _∷_}
-use Prim.Native.Nat.{ℕ, zero, suc, _+_, _-_, max, min}
+use Prim.Native.Nat.{ℕ, zero, suc, _+_, _*_, _-_, max, min}
 use lib.Dec.{leb, ltb, eqb}
 use lib.IntN.{ℤ, pos, _-ℤ_}
+use lib.ListN.{getD}
 use Rattle.walks.specs.Graph.{Graph}
 use Rattle.walks.specs.Demand.{longestTime, noTime}
 use Rattle.walks.specs.Fixed.{Task, fixedSum}
@@ -23,6 +24,14 @@ minBelow (suc n) none f = min (minBelow n none f) (f n)
 abbrev pub seek : ℕ → ℕ → (ℕ → Bool) → ℕ
 seek zero i test = i
 seek (suc count) i test = let later = seek count (suc i) test in cond (test i) i later
+
+-- the cell of row k in a line, of lines of n cells
+abbrev pub cellAt : ℕ → List ℕ → ℕ → ℕ → ℕ
+cellAt n cells line k = getD cells (line * n + k) 0
+
+-- the cell of row k for the amount a, where the first line is for the amount 1
+abbrev pub cellFor : ℕ → List ℕ → ℕ → ℕ → ℕ
+cellFor n cells a k = cellAt n cells (a - 1) k
 
 -- what going on to row j adds, with s left: `gap` has the row's gaps, and `table` the cells of shorter intervals
 abbrev pub viaAt : (ℕ → ℕ) → (ℕ → ℕ → ℕ) → ℕ → ℕ → ℕ

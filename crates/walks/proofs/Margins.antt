@@ -1,0 +1,60 @@
+-- The margin in whole numbers: a difference with a sign, at least 0 exactly where the sum of demands is at most the interval.
+use mathlib.Core.Path.{_≡_, refl, _∙_, sym, ap}
+use mathlib.Core.Logic.{_⊎_, inl, inr, ⊎-elim, _↔_}
+use mathlib.Core.List.{List}
+use Prim.Native.Nat.{ℕ, zero, suc, _+_, _-_, _≤_, _<_}
+use native.Mathlib.Omega.{arith}
+use lib.Dec.{le→leb}
+use lib.IntN.{ℤ, pos, _+ℤ_, _-ℤ_, negℤ, subℕ, +ℤ-assoc, negℤ-+ℤ}
+use lib.Signed.{leZ-yes, ltZ-yes, clashℤ}
+use borrow.Author.Tests.{lt-ltb, le-ltb}
+use Rattle.walks.specs.Graph.{Graph}
+use Rattle.walks.specs.Demand.{longestTime, IsDemand, IsShortest}
+use Rattle.walks.specs.Fixed.{Task, fixedSum}
+use Rattle.walks.specs.Verdict.{IsMargin, Meets, Overruns}
+use Rattle.walks.proofs.Tests.{lt-or}
+use Rattle.walks.proofs.Unique.{demand-unique}
+use Rattle.walks.proofs.Agreement.{agree}
+
+-- a difference of two naturals
+pub difference : (t n : ℕ) → pos t -ℤ pos n ≡ subℕ t n
+difference t zero = rw (le-ltb t 0 (omega arith)) (ap pos (omega arith))
+difference t (suc n) = refl
+
+-- the margin is one difference: the interval less both demands together
+pub margin-sub : (t d f : ℕ) → pos t -ℤ pos d -ℤ pos f ≡ subℕ t (d + f)
+margin-sub t d f =
+    +ℤ-assoc (pos t) (negℤ (pos d)) (negℤ (pos f)) ∙ ap (λ (x : ℤ). pos t +ℤ x) (sym (negℤ-+ℤ (pos d) (pos f))) ∙ difference t (d + f)
+
+module _ (g : Graph) (tasks : List Task) where
+  -- there is one margin at t
+  pub margin-unique : (t : ℕ) (m n : ℤ) → IsMargin g tasks t m → IsMargin g tasks t n → m ≡ n
+  margin-unique t m n a b =
+      a .2 ∙ ap (λ (d : ℕ). pos t -ℤ pos d -ℤ pos (fixedSum tasks t)) (demand-unique g t (a .0) (b .0) (a .1) (b .1)) ∙ sym (b .2)
+
+  -- no interval is both met and overrun
+  pub meets-or-overruns : (t : ℕ) → Meets g tasks t → Overruns g tasks t → ⊥
+  meets-or-overruns t a b = clashℤ (b .2) (rw (margin-unique t (a .0) (b .0) (a .1) (b .1)) at (a .2))
+
+  module _ (t d : ℕ) (demand : IsDemand g t d) where
+    -- where both demands together are at most t, t is met
+    pub meets : d + fixedSum tasks t ≤ t → Meets g tasks t
+    meets h =
+        ( pos t -ℤ pos d -ℤ pos (fixedSum tasks t)
+        , (d, demand, refl)
+        , rw (margin-sub, le-ltb t (d + fixedSum tasks t) h) (leZ-yes (omega (arith, le→leb))) )
+
+    -- where they are more, t is overrun
+    pub overruns : t < d + fixedSum tasks t → Overruns g tasks t
+    overruns h = (pos t -ℤ pos d -ℤ pos (fixedSum tasks t), (d, demand, refl), rw (margin-sub, lt-ltb t (d + fixedSum tasks t) h) (ltZ-yes tt))
+
+    -- an overrun, told by the sum of the demands
+    pub overruns-by-demand : Overruns g tasks t ↔ (t < d + fixedSum tasks t)
+    overruns-by-demand = ((λ o. ⊎-elim (λ l. l) (λ l. absurd (meets-or-overruns t (meets l) o)) (lt-or t (d + fixedSum tasks t))), overruns)
+
+    -- an overrun, told by the shortest interval for what the fixed tasks leave and one more
+    pub by-amount : (x : ℕ) → t ≤ longestTime → IsShortest g (suc (t - fixedSum tasks t)) x → (t < d + fixedSum tasks t) ↔ ((t < fixedSum tasks t) ⊎ (x ≤ t))
+    by-amount x ht shortest =
+        let both : (x ≤ t) ↔ (suc (t - fixedSum tasks t) ≤ d) = agree g (suc (t - fixedSum tasks t)) x (omega arith) shortest t d ht demand in
+        ( (λ l. ⊎-elim (λ m. inl m) (λ m. inr (both .1 (omega arith))) (lt-or t (fixedSum tasks t)))
+        , ⊎-elim (λ m. omega arith) (λ m. omega (arith, both .0 m)) )
