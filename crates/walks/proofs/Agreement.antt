@@ -22,21 +22,23 @@ demand-never-falls g t u d e h = largest-never-falls (InTime g t) (InTime g u) (
 module _ (g : Graph) (b x : ℕ) (hb : 1 ≤ b) (shortest : IsShortest g b x) where
   -- the shortest interval for b is at most t exactly when the demand at t is at least b
   pub agree : (t d : ℕ) → t ≤ longestTime → IsDemand g t d → (x ≤ t) ↔ (b ≤ d)
-  agree t d ht demand =
-      ( (λ l. ⊎-elim
-          (λ r. omega (arith, r .1 .1, r .2, demand .bound (r .0) (r .1 .0, omega (arith, r .2))))
-          (λ r. absurd (omega (arith, r .0)))
-          (shortest .reached))
-      , (λ l. ⊎-elim
-          (λ r. omega (arith, r .1 .1, shortest .bound (r .0) (r .1 .0, omega (arith, r .2), omega (arith, r .1 .1))))
-          (λ r. absurd (omega (arith, r .0)))
-          (demand .reached)) )
+  agree t d ht demand = (
+    (λ l. ⊎-elim
+        (λ r. omega (arith, r .1 .1, r .2, demand .bound (r .0) (r .1 .0, omega (arith, r .2))))
+        (λ r. absurd (omega (arith, r .0)))
+        (shortest .reached)),
+    (λ l. ⊎-elim
+        (λ r. omega (arith, r .1 .1, shortest .bound (r .0) (r .1 .0, omega (arith, r .2), omega (arith, r .1 .1))))
+        (λ r. absurd (omega (arith, r .0)))
+        (demand .reached)),
+  )
 
   -- there is no shortest interval for b exactly when the demand at the longest time is below b
   pub agree-none : (d : ℕ) → IsDemand g longestTime d → (x ≡ noTime) ↔ (d < b)
-  agree-none d demand =
-      ( (λ e. ⊎-elim (λ l. l) (λ l. absurd (omega (arith, e, agree longestTime d (omega arith) demand .1 l))) (lt-or d b))
-      , (λ l. ⊎-elim
-          (λ r. absurd (omega (arith, r .1 .1, demand .bound (r .0) (r .1 .0, r .1 .2))))
-          (λ r. r .0)
-          (shortest .reached)) )
+  agree-none d demand = (
+    (λ e. ⊎-elim (λ l. l) (λ l. absurd (omega (arith, e, agree longestTime d (omega arith) demand .1 l))) (lt-or d b)),
+    (λ l. ⊎-elim
+        (λ r. absurd (omega (arith, r .1 .1, demand .bound (r .0) (r .1 .0, r .1 .2))))
+        (λ r. r .0)
+        (shortest .reached)),
+  )

@@ -76,10 +76,11 @@ module _ (g : Graph) (sound : Sound g) (table : ℕ → ℕ → ℕ) (a k : ℕ)
       ⊎-elim
       (λ c. rw (c .0) record {
         bound = λ rest e. end-at-least-deadline g sound k rest (e .0);
-        reached = inl ([], (hk, h, omega (arith, c .1)), refl) })
+        reached = inl ([], (hk, h, omega (arith, c .1)), refl);
+      })
       (λ c.
-        let no-list : (rest : List ℕ) → EnoughFrom g k a rest → ⊥ = λ rest e. omega (arith, end-at-least-deadline g sound k rest (e .0), e .2, c .1) in
-        rw (c .0) record { bound = λ rest e. absurd (no-list rest e); reached = inr (refl, no-list) })
+      let no-list : (rest : List ℕ) → EnoughFrom g k a rest → ⊥ = λ rest e. omega (arith, end-at-least-deadline g sound k rest (e .0), e .2, c .1) in
+      rw (c .0) record { bound = λ rest e. absurd (no-list rest e); reached = inr (refl, no-list) })
       (time-or (g .deadline k))
 
   more-bound : g .length k < a → (rest : List ℕ) → EnoughFrom g k a rest → minBelow (g .rows) noTime via ≤ endFrom g k rest
@@ -88,28 +89,30 @@ module _ (g : Graph) (sound : Sound g) (table : ℕ → ℕ → ℕ) (a k : ℕ)
   more-bound l (j ∷ rest) h =
       let hj : j < g .rows = head-in g j rest (h .0 .2) in
       let cell : table (a - g .length k) j ≤ endFrom g j rest = below j hj (h .0 .1) l .bound rest (h .0 .2, omega (arith, h .1), omega (arith, h .2)) in
-      omega (arith,
+      omega (
+        arith,
         via-least-take (g .gap k) table (a - g .length k) j (h .0 .1) (omega (arith, h .2)),
-        min-le (g .rows) noTime (viaLeastAt (g .gap k) table (a - g .length k)) j hj)
+        min-le (g .rows) noTime (viaLeastAt (g .gap k) table (a - g .length k)) j hj,
+      )
 
   more-reached : g .length k < a
-    → ((rest : List ℕ) × EnoughFrom g k a rest × (endFrom g k rest ≡ minBelow (g .rows) noTime via))
+      → ((rest : List ℕ) × EnoughFrom g k a rest × (endFrom g k rest ≡ minBelow (g .rows) noTime via))
       ⊎ ((minBelow (g .rows) noTime via ≡ noTime) × ((rest : List ℕ) → EnoughFrom g k a rest → ⊥))
   unfolding via
   more-reached l =
       ⊎-elim
       (λ m.
-        let j : ℕ = m .0 in
-        let p : 0 < g .gap k j = via-least-below (g .gap k) table (a - g .length k) j (m .3) in
-        let given : viaLeastAt (g .gap k) table (a - g .length k) j ≡ timeOrNone (g .gap k j + table (a - g .length k) j) =
-              via-least-is (g .gap k) table (a - g .length k) j p in
-        ⊎-elim
-        (λ c. ⊎-elim
-          (λ r. inl (j ∷ r .0, ((hk, p, r .1 .0), omega (arith, r .1 .1), omega (arith, r .2, c .1)), omega (arith, r .2, c .0, m .2)))
-          (λ r. absurd (omega (arith, r .0, c .1)))
-          (below j (m .1) p l .reached))
-        (λ c. absurd (omega (arith, c .0, m .3)))
-        (time-or (g .gap k j + table (a - g .length k) j)))
+      let j : ℕ = m .0 in
+      let p : 0 < g .gap k j = via-least-below (g .gap k) table (a - g .length k) j (m .3) in
+      let given : viaLeastAt (g .gap k) table (a - g .length k) j ≡ timeOrNone (g .gap k j + table (a - g .length k) j) =
+      via-least-is (g .gap k) table (a - g .length k) j p in
+      ⊎-elim
+      (λ c. ⊎-elim
+      (λ r. inl (j ∷ r .0, ((hk, p, r .1 .0), omega (arith, r .1 .1), omega (arith, r .2, c .1)), omega (arith, r .2, c .0, m .2)))
+      (λ r. absurd (omega (arith, r .0, c .1)))
+      (below j (m .1) p l .reached))
+      (λ c. absurd (omega (arith, c .0, m .3)))
+      (time-or (g .gap k j + table (a - g .length k) j)))
       (λ m. inr (m, λ rest e. omega (arith, more-bound l rest e, m, e .2)))
       (min-at (g .rows) noTime (viaLeastAt (g .gap k) table (a - g .length k)))
 
@@ -142,10 +145,11 @@ module _ (g : Graph) (b : ℕ) (cell : ℕ → ℕ) (right : (k : ℕ) → k < g
   shortest-is = record {
     bound = shortest-bound;
     reached =
-      ⊎-elim
-      (λ m. ⊎-elim
+        ⊎-elim
+        (λ m. ⊎-elim
         (λ r. inl (m .0 ∷ r .0, r .1, omega (arith, r .2, m .2)))
         (λ r. absurd (omega (arith, r .0, m .3)))
         (right (m .0) (m .1) .reached))
-      (λ m. inr (m, λ w h. omega (arith, shortest-bound w h, h .2, m)))
-      (min-at (g .rows) noTime cell) }
+        (λ m. inr (m, λ w h. omega (arith, shortest-bound w h, h .2, m)))
+        (min-at (g .rows) noTime cell);
+  }

@@ -70,13 +70,13 @@ module _ (g : Graph) (sound : Sound g) (table : ℕ → ℕ → ℕ) (s k : ℕ)
   best-reached d =
       ⊎-elim
       (λ m.
-        let j : ℕ = m .0 in
-        let p : (0 < g .gap k j) × (g .gap k j ≤ s) = via-positive (g .gap k) table s j (m .3) in
-        let taken : viaAt (g .gap k) table s j ≡ table (s - g .gap k j) j = via-take (g .gap k) table s j (p .0) (p .1) in
-        ⊎-elim
-        (λ r. (j ∷ r .0, ((hk, p .0, r .1 .0), omega (arith, r .1 .1)), omega (arith, r .2, m .2)))
-        (λ r. absurd (omega (arith, r .0, m .3)))
-        (below j (m .1) (p .0) (p .1) .reached))
+      let j : ℕ = m .0 in
+      let p : (0 < g .gap k j) × (g .gap k j ≤ s) = via-positive (g .gap k) table s j (m .3) in
+      let taken : viaAt (g .gap k) table s j ≡ table (s - g .gap k j) j = via-take (g .gap k) table s j (p .0) (p .1) in
+      ⊎-elim
+      (λ r. (j ∷ r .0, ((hk, p .0, r .1 .0), omega (arith, r .1 .1)), omega (arith, r .2, m .2)))
+      (λ r. absurd (omega (arith, r .0, m .3)))
+      (below j (m .1) (p .0) (p .1) .reached))
       (λ m. ([], (hk, omega arith), omega (arith, m)))
       (max-at (g .rows) (viaAt (g .gap k) table s))
 
@@ -111,10 +111,11 @@ module _ (g : Graph) (sound : Sound g) (t : ℕ) (cell : ℕ → ℕ) (right : (
   demand-is = record {
     bound = demand-bound;
     reached =
-      ⊎-elim
-      (λ m. ⊎-elim
+        ⊎-elim
+        (λ m. ⊎-elim
         (λ r. inl (m .0 ∷ r .0, r .1, omega (arith, r .2, m .2)))
         (λ r. absurd (omega (arith, r .0, m .3)))
         (right (m .0) (m .1) .reached))
-      (λ m. inr (m, λ w h. omega (arith, demand-bound w h, amount-positive g sound w (h .0), m)))
-      (max-at (g .rows) cell) }
+        (λ m. inr (m, λ w h. omega (arith, demand-bound w h, amount-positive g sound w (h .0), m)))
+        (max-at (g .rows) cell);
+  }

@@ -62,9 +62,9 @@ module _ (g : Graph) (sound : Sound g) where
   goes-on-true s k r j h =
       ⊎-elim
       (λ p. ⊎-elim
-        (λ q. (p .0, q .0, eqb-true _ _ (rw (p .1, q .1) at h)))
-        (λ q. absurd (false≢true (rw (p .1, q .1) at h)))
-        (le-or (g .gap k j) s))
+      (λ q. (p .0, q .0, eqb-true _ _ (rw (p .1, q .1) at h)))
+      (λ q. absurd (false≢true (rw (p .1, q .1) at h)))
+      (le-or (g .gap k j) s))
       (λ p. absurd (false≢true (rw (p .1) at h)))
       (le-or 1 (g .gap k j))
 
@@ -79,23 +79,23 @@ module _ (g : Graph) (sound : Sound g) where
       ⊎-elim
       (λ l. rw (l .1) (stop g s k r hk (in-time .0) (omega (arith, l .0))))
       (λ l.
-        let cell : ℕ → ℕ = λ i. best g (s - g .gap k i) i in
-        let right : (i : ℕ) → i < g .rows → 0 < g .gap k i → g .gap k i ≤ s → IsBestFrom g i (s - g .gap k i) (best g (s - g .gap k i) i) =
-              λ i hi p q. best-of (s - g .gap k i) i hi in
-        let n : (j : ℕ) × (j < g .rows) × (0 < g .gap k j) × (g .gap k j ≤ s) × (best g (s - g .gap k j) j ≡ r - g .length k) =
-              next-row g s k r hk cell right b (l .0) in
-        let j : ℕ = seek (g .rows) 0 (goesOn g s k r) in
-        let hj : j < g .rows =
-              omega (arith, n .1, seek-le (g .rows) 0 (goesOn g s k r) (n .0) (omega arith) (goes-on s k r (n .0) (n .2) (n .3) (n .4))) in
-        let o : (0 < g .gap k j) × (g .gap k j ≤ s) × (best g (s - g .gap k j) j ≡ r - g .length k) =
-              goes-on-true s k r j (seek-hit (g .rows) 0 (goesOn g s k r) (omega arith)) in
-        let bj : IsBestFrom g j (s - g .gap k j) (r - g .length k) =
-              subst (λ (x : ℕ). IsBestFrom g j (s - g .gap k j) x) (o .2) (best-of (s - g .gap k j) j hj) in
-        rw (l .1)
-        (more g s k r hk cell right b (l .0) j (o .0) (o .1)
-          (λ i m p q e. false≢true (sym (seek-before (g .rows) 0 (goesOn g s k r) i (omega arith) m) ∙ goes-on s k r i p q e))
-          (restWithin g fuel (s - g .gap k j) j (r - g .length k))
-          (rest-is fuel (s - g .gap k j) j (r - g .length k) (omega (arith, o .0)) hj (omega (arith, l .0)) bj)))
+      let cell : ℕ → ℕ = λ i. best g (s - g .gap k i) i in
+      let right : (i : ℕ) → i < g .rows → 0 < g .gap k i → g .gap k i ≤ s → IsBestFrom g i (s - g .gap k i) (best g (s - g .gap k i) i) =
+      λ i hi p q. best-of (s - g .gap k i) i hi in
+      let n : (j : ℕ) × (j < g .rows) × (0 < g .gap k j) × (g .gap k j ≤ s) × (best g (s - g .gap k j) j ≡ r - g .length k) =
+      next-row g s k r hk cell right b (l .0) in
+      let j : ℕ = seek (g .rows) 0 (goesOn g s k r) in
+      let hj : j < g .rows =
+      omega (arith, n .1, seek-le (g .rows) 0 (goesOn g s k r) (n .0) (omega arith) (goes-on s k r (n .0) (n .2) (n .3) (n .4))) in
+      let o : (0 < g .gap k j) × (g .gap k j ≤ s) × (best g (s - g .gap k j) j ≡ r - g .length k) =
+      goes-on-true s k r j (seek-hit (g .rows) 0 (goesOn g s k r) (omega arith)) in
+      let bj : IsBestFrom g j (s - g .gap k j) (r - g .length k) =
+      subst (λ (x : ℕ). IsBestFrom g j (s - g .gap k j) x) (o .2) (best-of (s - g .gap k j) j hj) in
+      rw (l .1)
+      (more g s k r hk cell right b (l .0) j (o .0) (o .1)
+      (λ i m p q e. false≢true (sym (seek-before (g .rows) 0 (goesOn g s k r) i (omega arith) m) ∙ goes-on s k r i p q e))
+      (restWithin g fuel (s - g .gap k j) j (r - g .length k))
+      (rest-is fuel (s - g .gap k j) j (r - g .length k) (omega (arith, o .0)) hj (omega (arith, l .0)) bj)))
       (le-or r (g .length k))
 
   -- there is a witness at every interval
@@ -105,16 +105,16 @@ module _ (g : Graph) (sound : Sound g) where
       ⊎-elim
       (λ l. rw (l .1) (no-start g t (subst (λ (x : ℕ). IsDemand g t x) (omega (arith, l .0)) (demand-of t))))
       (λ l.
-        let d : ℕ = demandOf g t in
-        let test : ℕ → Bool = λ k. eqb (best g t k) (demandOf g t) in
-        let n : (k : ℕ) × (k < g .rows) × (best g t k ≡ d) = first-row g t d (best g t) (best-of t) (demand-of t) (l .0) in
-        let k : ℕ = seek (g .rows) 0 test in
-        let hk : k < g .rows = omega (arith, n .1, seek-le (g .rows) 0 test (n .0) (omega arith) (eq-eqb _ _ (n .2))) in
-        let e : best g t k ≡ d = eqb-true _ _ (seek-hit (g .rows) 0 test (omega arith)) in
-        let b : IsBestFrom g k t d = subst (λ (x : ℕ). IsBestFrom g k t x) e (best-of t k hk) in
-        rw (l .1)
-        (start g t d (best g t) (best-of t) (demand-of t) (l .0) k
-          (λ i m e. false≢true (sym (seek-before (g .rows) 0 test i (omega arith) m) ∙ eq-eqb _ _ e))
-          (restWithin g (suc t) t k d)
-          (rest-is (suc t) t k d (omega arith) hk (l .0) b)))
+      let d : ℕ = demandOf g t in
+      let test : ℕ → Bool = λ k. eqb (best g t k) (demandOf g t) in
+      let n : (k : ℕ) × (k < g .rows) × (best g t k ≡ d) = first-row g t d (best g t) (best-of t) (demand-of t) (l .0) in
+      let k : ℕ = seek (g .rows) 0 test in
+      let hk : k < g .rows = omega (arith, n .1, seek-le (g .rows) 0 test (n .0) (omega arith) (eq-eqb _ _ (n .2))) in
+      let e : best g t k ≡ d = eqb-true _ _ (seek-hit (g .rows) 0 test (omega arith)) in
+      let b : IsBestFrom g k t d = subst (λ (x : ℕ). IsBestFrom g k t x) e (best-of t k hk) in
+      rw (l .1)
+      (start g t d (best g t) (best-of t) (demand-of t) (l .0) k
+      (λ i m e. false≢true (sym (seek-before (g .rows) 0 test i (omega arith) m) ∙ eq-eqb _ _ e))
+      (restWithin g (suc t) t k d)
+      (rest-is (suc t) t k d (omega arith) hk (l .0) b)))
       (le-or (demandOf g t) 0)

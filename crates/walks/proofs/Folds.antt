@@ -23,9 +23,9 @@ max-at zero f = inr refl
 max-at (suc n) f =
     ⊎-elim
     (λ p. ⊎-elim
-      (λ q. inl (q .0, omega (arith, q .1), omega (arith, q .2), q .3))
-      (λ q. ⊎-elim (λ z. inr (omega arith)) (λ z. inl (n, omega arith, omega arith, z)) (eq-zero-or-pos (f n)))
-      (max-at n f))
+    (λ q. inl (q .0, omega (arith, q .1), omega (arith, q .2), q .3))
+    (λ q. ⊎-elim (λ z. inr (omega arith)) (λ z. inl (n, omega arith, omega arith, z)) (eq-zero-or-pos (f n)))
+    (max-at n f))
     (λ p. inl (n, omega arith, omega arith, omega arith))
     (le-or (f n) (maxBelow n f))
 
@@ -40,8 +40,8 @@ max-skip f i (suc j) h z =
     ⊎-elim
     (λ e. rw e)
     (λ l.
-      let before : maxBelow j f ≡ maxBelow i f = max-skip f i j (omega arith) (λ m a b. z m a (omega arith)) in
-      omega (arith, z j (omega arith) (omega arith)))
+    let before : maxBelow j f ≡ maxBelow i f = max-skip f i j (omega arith) (λ m a b. z m a (omega arith)) in
+    omega (arith, z j (omega arith) (omega arith)))
     (eq-or-lt-of-le h)
 
 -- functions with the same values have the same largest
@@ -71,9 +71,9 @@ min-at zero none f = inr refl
 min-at (suc n) none f =
     ⊎-elim
     (λ p. ⊎-elim
-      (λ q. inl (q .0, omega (arith, q .1), omega (arith, q .2), q .3))
-      (λ q. ⊎-elim (λ z. inl (n, omega arith, omega arith, z)) (λ z. inr (omega arith)) (lt-or (f n) none))
-      (min-at n none f))
+    (λ q. inl (q .0, omega (arith, q .1), omega (arith, q .2), q .3))
+    (λ q. ⊎-elim (λ z. inl (n, omega arith, omega arith, z)) (λ z. inr (omega arith)) (lt-or (f n) none))
+    (min-at n none f))
     (λ p. inl (n, omega arith, omega arith, omega (arith, min-le-none n none f)))
     (le-or (minBelow n none f) (f n))
 
@@ -88,8 +88,8 @@ min-skip none f i (suc j) h z =
     ⊎-elim
     (λ e. rw e)
     (λ l.
-      let before : minBelow j none f ≡ minBelow i none f = min-skip none f i j (omega arith) (λ m a b. z m a (omega arith)) in
-      omega (arith, z j (omega arith) (omega arith), min-le-none i none f))
+    let before : minBelow j none f ≡ minBelow i none f = min-skip none f i j (omega arith) (λ m a b. z m a (omega arith)) in
+    omega (arith, z j (omega arith) (omega arith), min-le-none i none f))
     (eq-or-lt-of-le h)
 
 -- functions with the same values have the same smallest

@@ -11,3 +11,7 @@ pub mod Existence
 pub mod Agreement
 pub mod Margins
 pub mod Verdicts
+pub mod Differences
+pub mod FixedTasks
+pub mod Bounds
+pub mod Examples

@@ -39,10 +39,11 @@ module _ (g : Graph) (tasks : List Task) where
   module _ (t d : ℕ) (demand : IsDemand g t d) where
     -- where both demands together are at most t, t is met
     pub meets : d + fixedSum tasks t ≤ t → Meets g tasks t
-    meets h =
-        ( pos t -ℤ pos d -ℤ pos (fixedSum tasks t)
-        , (d, demand, refl)
-        , rw (margin-sub, le-ltb t (d + fixedSum tasks t) h) (leZ-yes (omega (arith, le→leb))) )
+    meets h = (
+      pos t -ℤ pos d -ℤ pos (fixedSum tasks t),
+      (d, demand, refl),
+      rw (margin-sub, le-ltb t (d + fixedSum tasks t) h) (leZ-yes (omega (arith, le→leb))),
+    )
 
     -- where they are more, t is overrun
     pub overruns : t < d + fixedSum tasks t → Overruns g tasks t
@@ -55,6 +56,7 @@ module _ (g : Graph) (tasks : List Task) where
     -- an overrun, told by the shortest interval for what the fixed tasks leave and one more
     pub by-amount : (x : ℕ) → t ≤ longestTime → IsShortest g (suc (t - fixedSum tasks t)) x → (t < d + fixedSum tasks t) ↔ ((t < fixedSum tasks t) ⊎ (x ≤ t))
     by-amount x ht shortest =
-        let both : (x ≤ t) ↔ (suc (t - fixedSum tasks t) ≤ d) = agree g (suc (t - fixedSum tasks t)) x (omega arith) shortest t d ht demand in
-        ( (λ l. ⊎-elim (λ m. inl m) (λ m. inr (both .1 (omega arith))) (lt-or t (fixedSum tasks t)))
-        , ⊎-elim (λ m. omega arith) (λ m. omega (arith, both .0 m)) )
+        let both : (x ≤ t) ↔ (suc (t - fixedSum tasks t) ≤ d) = agree g (suc (t - fixedSum tasks t)) x (omega arith) shortest t d ht demand in (
+          (λ l. ⊎-elim (λ m. inl m) (λ m. inr (both .1 (omega arith))) (lt-or t (fixedSum tasks t))),
+          ⊎-elim (λ m. omega arith) (λ m. omega (arith, both .0 m)),
+        )

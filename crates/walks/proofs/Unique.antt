@@ -15,9 +15,9 @@ pub largest-unique : (P : List ℕ → Type 0) (f : List ℕ → ℕ) (r q : ℕ
 largest-unique P f r q a b =
     ⊎-elim
     (λ u. ⊎-elim
-      (λ v. omega (arith, u .2, v .2, a .bound (v .0) (v .1), b .bound (u .0) (u .1)))
-      (λ v. absurd (v .1 (u .0) (u .1)))
-      (b .reached))
+    (λ v. omega (arith, u .2, v .2, a .bound (v .0) (v .1), b .bound (u .0) (u .1)))
+    (λ v. absurd (v .1 (u .0) (u .1)))
+    (b .reached))
     (λ u. ⊎-elim (λ v. absurd (u .1 (v .0) (v .1))) (λ v. omega (arith, u .0, v .0)) (b .reached))
     (a .reached)
 
@@ -26,9 +26,9 @@ pub smallest-unique : (P : List ℕ → Type 0) (f : List ℕ → ℕ) (none r q
 smallest-unique P f none r q a b =
     ⊎-elim
     (λ u. ⊎-elim
-      (λ v. omega (arith, u .2, v .2, a .bound (v .0) (v .1), b .bound (u .0) (u .1)))
-      (λ v. absurd (v .1 (u .0) (u .1)))
-      (b .reached))
+    (λ v. omega (arith, u .2, v .2, a .bound (v .0) (v .1), b .bound (u .0) (u .1)))
+    (λ v. absurd (v .1 (u .0) (u .1)))
+    (b .reached))
     (λ u. ⊎-elim (λ v. absurd (u .1 (v .0) (v .1))) (λ v. omega (arith, u .0, v .0)) (b .reached))
     (a .reached)
 
@@ -73,7 +73,7 @@ module _ (g : Graph) where
       ⊎-elim
       (λ p. ⊎-elim (λ q. p .1 ∙ sym (q .1)) (λ q. absurd (omega (arith, p .0, q .0))) (b .2))
       (λ p. ⊎-elim
-        (λ q. absurd (omega (arith, p .0, q .0)))
-        (λ q. first-unique (Attains g t (b .0)) w v (subst (λ (d : ℕ). First (Attains g t d) w) e (p .1)) (q .1))
-        (b .2))
+      (λ q. absurd (omega (arith, p .0, q .0)))
+      (λ q. first-unique (Attains g t (b .0)) w v (subst (λ (d : ℕ). First (Attains g t d) w) e (p .1)) (q .1))
+      (b .2))
       (a .2)

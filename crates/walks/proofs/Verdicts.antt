@@ -44,11 +44,12 @@ module _ (g : Graph) (tasks : List Task) where
   pub verdict-is : (H : ℕ) (over : ℕ → Bool) → ((t : ℕ) → 1 ≤ t → t ≤ H → Tells g tasks over t) → IsVerdict g tasks H (verdictBy H over)
   verdict-is H over tells =
       ⊎-elim
-      (λ l. rw (l .1)
-        ( in-range .0
-        , l .0
-        , tells-true over first (tells first (in-range .0) (l .0)) (seek-hit H 1 over (omega (arith, l .0)))
-        , λ u p q. tells-false over u (tells u p (omega (arith, l .0))) (seek-before H 1 over u p q) ))
+      (λ l. rw (l .1) (
+        in-range .0,
+        l .0,
+        tells-true over first (tells first (in-range .0) (l .0)) (seek-hit H 1 over (omega (arith, l .0))),
+        λ u p q. tells-false over u (tells u p (omega (arith, l .0))) (seek-before H 1 over u p q),
+      ))
       (λ l. rw (l .1) (λ u p q. tells-false over u (tells u p q) (seek-before H 1 over u p (omega (arith, l .0)))))
       (le-or first H)
     where
@@ -76,15 +77,16 @@ module _ (g : Graph) (sound : Sound g) (tasks : List Task) where
       ⊎-elim
       (λ p. inl (rw (p .1), overruns g tasks t d (demand-of g sound t) (both .1 (inl (p .0)))))
       (λ p. ⊎-elim
-        (λ q. inl (rw (p .1) (q .1), overruns g tasks t d (demand-of g sound t) (both .1 (inr (q .0)))))
-        (λ q. inr
-          ( rw (p .1) (q .1)
-          , meets g tasks t d (demand-of g sound t)
+      (λ q. inl (rw (p .1) (q .1), overruns g tasks t d (demand-of g sound t) (both .1 (inr (q .0)))))
+      (λ q. inr (
+        rw (p .1) (q .1),
+        meets g tasks t d (demand-of g sound t)
             (⊎-elim
-              (λ l. absurd (⊎-elim (λ m. omega (arith, p .0)) (λ m. omega (arith, q .0)) (both .0 l)))
-              (λ l. l)
-              (lt-or t (d + f))) ))
-        (le-or x t))
+            (λ l. absurd (⊎-elim (λ m. omega (arith, p .0)) (λ m. omega (arith, q .0)) (both .0 l)))
+            (λ l. l)
+            (lt-or t (d + f))),
+      ))
+      (le-or x t))
       (le-or (suc t) f)
 
   -- up to the longest time the verdict is also found by shortest intervals

@@ -35,7 +35,7 @@ module _ (g : Graph) (s k r : ℕ) (hk : k < g .rows) where
   stop d e = record { allowed = ((hk, omega arith), omega arith); least = λ v h. tt }
 
   module _ (cell : ℕ → ℕ) (right : (i : ℕ) → i < g .rows → 0 < g .gap k i → g .gap k i ≤ s → IsBestFrom g i (s - g .gap k i) (cell i))
-    (best : IsBestFrom g k s r) (l : g .length k < r) where
+      (best : IsBestFrom g k s r) (l : g .length k < r) where
     at-most-left : (i : ℕ) → i < g .rows → 0 < g .gap k i → g .gap k i ≤ s → cell i ≤ r - g .length k
     at-most-left i hi p q =
         ⊎-elim
@@ -62,11 +62,12 @@ module _ (g : Graph) (s k r : ℕ) (hk : k < g .rows) where
 
     -- where row j is the first follower that leads to the rest, the first sequence goes on with it
     pub more : (j : ℕ) → 0 < g .gap k j → g .gap k j ≤ s
-      → ((i : ℕ) → i < j → 0 < g .gap k i → g .gap k i ≤ s → cell i ≡ r - g .length k → ⊥)
-      → (rest : List ℕ) → First (AttainsFrom g j (s - g .gap k j) (r - g .length k)) rest → First (AttainsFrom g k s r) (j ∷ rest)
+        → ((i : ℕ) → i < j → 0 < g .gap k i → g .gap k i ≤ s → cell i ≡ r - g .length k → ⊥)
+        → (rest : List ℕ) → First (AttainsFrom g j (s - g .gap k j) (r - g .length k)) rest → First (AttainsFrom g k s r) (j ∷ rest)
     more j p q earlier rest first = record {
       allowed = (((hk, p, first .allowed .0 .0), omega (arith, first .allowed .0 .1)), omega (arith, first .allowed .1));
-      least = go }
+      least = go;
+    }
       where
         same : (v : List ℕ) → AttainsFrom g k s r (j ∷ v) → Before rest v
         same v h = first .least v ((h .0 .0 .2, omega (arith, h .0 .1)), omega (arith, h .1))
@@ -76,7 +77,7 @@ module _ (g : Graph) (s k r : ℕ) (hk : k < g .rows) where
         go (i ∷ v) h =
             ⊎-elim
             (λ m. let o : (i < g .rows) × (0 < g .gap k i) × (g .gap k i ≤ s) × (cell i ≡ r - g .length k) = leads-on i v h in
-              absurd (earlier i m (o .1) (o .2) (o .3)))
+            absurd (earlier i m (o .1) (o .2) (o .3)))
             (λ m. ⊎-elim (λ e. inr (e, same v (rw (← e) at h))) (λ m. inl (omega arith)) (eq-or-lt-of-le m))
             (lt-or i j)
 
@@ -85,7 +86,7 @@ module _ (g : Graph) (t d : ℕ) (cell : ℕ → ℕ) (right : (i : ℕ) → i <
   attains-at k rest h =
       let hk : k < g .rows = head-in g k rest (h .0 .0) in
       let at-most : cell k ≤ d =
-            ⊎-elim (λ u. omega (arith, u .2, demand .bound (k ∷ u .0) (u .1))) (λ u. omega (arith, u .0)) (right k hk .reached) in
+      ⊎-elim (λ u. omega (arith, u .2, demand .bound (k ∷ u .0) (u .1))) (λ u. omega (arith, u .0)) (right k hk .reached) in
       (hk, omega (arith, h .1, right k hk .bound rest (h .0)))
 
   -- where there is demand, some row's cell is all of it
