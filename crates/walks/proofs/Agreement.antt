@@ -1,8 +1,8 @@
 -- Demand and shortest interval say the same, one by interval and one by amount.
 use mathlib.Core.Path.{_≡_}
-use mathlib.Core.Logic.{⊎-elim, _↔_}
+use mathlib.Core.Logic.{_⊎_, inl, inr, ⊎-elim, _↔_}
 use mathlib.Core.List.{List}
-use Prim.Native.Nat.{ℕ, _≤_, _<_}
+use Prim.Native.Nat.{ℕ, suc, _+_, _-_, _≤_, _<_}
 use native.Mathlib.Omega.{arith}
 use Rattle.walks.specs.Graph.{Graph}
 use Rattle.walks.specs.Sequence.{amount}
@@ -42,3 +42,11 @@ module _ (g : Graph) (b x : ℕ) (hb : 1 ≤ b) (shortest : IsShortest g b x) wh
         (λ r. r .0)
         (shortest .reached)),
   )
+
+-- demand and a further amount f together are more than t exactly when f alone is, or the shortest interval for what f leaves of t and one more is at most t
+pub by-amount : (g : Graph) (t d f x : ℕ) → t ≤ longestTime → IsDemand g t d → IsShortest g (suc (t - f)) x → (t < d + f) ↔ ((t < f) ⊎ (x ≤ t))
+by-amount g t d f x ht demand shortest =
+    let both : (x ≤ t) ↔ (suc (t - f) ≤ d) = agree g (suc (t - f)) x (omega arith) shortest t d ht demand in (
+      (λ l. ⊎-elim (λ m. inl m) (λ m. inr (both .1 (omega arith))) (lt-or t f)),
+      ⊎-elim (λ m. omega arith) (λ m. omega (arith, both .0 m)),
+    )

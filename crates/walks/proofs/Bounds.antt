@@ -51,7 +51,7 @@ module _ (g : Graph) (sound : Sound g) where
         omega (arith, none-longer k h)
     amount-from-at-most k (j ∷ rest) h =
         let one : most * 1 ≤ most * g .gap k j = mul-le-mul (omega arith) (h .1) in
-        omega (arith, none-longer k (h .0), amount-from-at-most j rest (h .2))
+        omega (arith, none-longer k (omega (arith, h .0)), amount-from-at-most j rest (h .2))
 
     -- a sequence has at most the longest length for each tick to its end
     pub amount-at-most : (w : List ℕ) → Allowed g w → amount g w ≤ most * endTime g w

@@ -13,7 +13,7 @@ use Rattle.walks.specs.Cells.{EnoughFrom, IsLeastFrom}
 use Rattle.walks.specs.Computed.{minBelow, timeOrNone, viaLeastAt, leastAt, leastStep, leastWithin}
 use Rattle.walks.proofs.Tests.{le-or}
 use Rattle.walks.proofs.Folds.{min-le, min-at}
-use Rattle.walks.proofs.Sequences.{head-in, end-at-least-deadline}
+use Rattle.walks.proofs.Sequences.{any-step, head-in, end-at-least-deadline}
 
 -- a time up to the longest is kept
 pub time-kept : (t : ℕ) → t ≤ longestTime → timeOrNone t ≡ t
@@ -108,7 +108,7 @@ module _ (g : Graph) (sound : Sound g) (table : ℕ → ℕ → ℕ) (a k : ℕ)
       via-least-is (g .gap k) table (a - g .length k) j p in
       ⊎-elim
       (λ c. ⊎-elim
-      (λ r. inl (j ∷ r .0, ((hk, p, r .1 .0), omega (arith, r .1 .1), omega (arith, r .2, c .1)), omega (arith, r .2, c .0, m .2)))
+      (λ r. inl (j ∷ r .0, (any-step g k j (r .0) hk p (r .1 .0), omega (arith, r .1 .1), omega (arith, r .2, c .1)), omega (arith, r .2, c .0, m .2)))
       (λ r. absurd (omega (arith, r .0, c .1)))
       (below j (m .1) p l .reached))
       (λ c. absurd (omega (arith, c .0, m .3)))

@@ -13,7 +13,7 @@ use Rattle.walks.specs.Cells.{InTimeFrom, IsBestFrom}
 use Rattle.walks.specs.Computed.{maxBelow, viaAt, stepAt, bestStep, bestWithin}
 use Rattle.walks.proofs.Tests.{le-or}
 use Rattle.walks.proofs.Folds.{max-ge, max-at}
-use Rattle.walks.proofs.Sequences.{head-in, end-at-least-deadline, amount-positive}
+use Rattle.walks.proofs.Sequences.{any-step, head-in, end-at-least-deadline, amount-positive}
 
 module _ (gap : ℕ → ℕ) (table : ℕ → ℕ → ℕ) (s j : ℕ) where
   -- a follower whose gap fits adds its own cell
@@ -74,7 +74,7 @@ module _ (g : Graph) (sound : Sound g) (table : ℕ → ℕ → ℕ) (s k : ℕ)
       let p : (0 < g .gap k j) × (g .gap k j ≤ s) = via-positive (g .gap k) table s j (m .3) in
       let taken : viaAt (g .gap k) table s j ≡ table (s - g .gap k j) j = via-take (g .gap k) table s j (p .0) (p .1) in
       ⊎-elim
-      (λ r. (j ∷ r .0, ((hk, p .0, r .1 .0), omega (arith, r .1 .1)), omega (arith, r .2, m .2)))
+      (λ r. (j ∷ r .0, (any-step g k j (r .0) hk (p .0) (r .1 .0), omega (arith, r .1 .1)), omega (arith, r .2, m .2)))
       (λ r. absurd (omega (arith, r .0, m .3)))
       (below j (m .1) (p .0) (p .1) .reached))
       (λ m. ([], (hk, omega arith), omega (arith, m)))

@@ -7,6 +7,14 @@ use lib.ListN.{length}
 use Rattle.walks.specs.Graph.{Graph, Sound}
 use Rattle.walks.specs.Sequence.{AllowedFrom, endFrom, amountFrom, Allowed, endTime, amount}
 
+-- every row is a sequence by itself, so that a sequence may start anywhere
+pub any-start : (g : Graph) (k : ℕ) → k < g .rows → Allowed g (k ∷ [])
+any-start g k h = omega arith
+
+-- a sequence goes on from any row that its first row may follow
+pub any-step : (g : Graph) (k j : ℕ) (rest : List ℕ) → k < g .rows → 0 < g .gap k j → AllowedFrom g j rest → AllowedFrom g k (j ∷ rest)
+any-step g k j rest h p a = (omega arith, omega arith, a)
+
 -- the first row is a row of the graph
 pub head-in : (g : Graph) (k : ℕ) (rest : List ℕ) → AllowedFrom g k rest → k < g .rows
 head-in g k [] h = h
@@ -21,7 +29,7 @@ module _ (g : Graph) (sound : Sound g) where
   -- a sequence ends no sooner than the deadline of its first row
   pub end-at-least-deadline : (k : ℕ) (rest : List ℕ) → AllowedFrom g k rest → g .deadline k ≤ endFrom g k rest
   end-at-least-deadline k [] h = omega arith
-  end-at-least-deadline k (j ∷ rest) h = omega (arith, sound .gap-at-least-deadline k j (h .0) (head-in g j rest (h .2)) (h .1))
+  end-at-least-deadline k (j ∷ rest) h = omega (arith, sound .gap-at-least-deadline k j (omega (arith, h .0)) (head-in g j rest (h .2)) (h .1))
 
   -- a sequence has some work, told by its first row and the rest
   pub amount-from-positive : (k : ℕ) (rest : List ℕ) → AllowedFrom g k rest → 1 ≤ amountFrom g k rest

@@ -14,7 +14,7 @@ use Rattle.walks.specs.Computed.{seek, demandOf, shortestOf, overByInter
 use Rattle.walks.proofs.Tests.{le-or, lt-or}
 use Rattle.walks.proofs.Seeking.{seek-range, seek-before, seek-hit}
 use Rattle.walks.proofs.Existence.{demand-of, shortest-of}
-use Rattle.walks.proofs.Margins.{meets-or-overruns, meets, overruns, by-amount}
+use Rattle.walks.proofs.Margins.{never-both, meets, overruns, overruns-by-amount, meets-by-amount}
 
 -- a test says of the interval t whether it is overrun
 abbrev pub Tells : Graph → List Task → (ℕ → Bool) → ℕ → Type 0
@@ -24,12 +24,12 @@ module _ (g : Graph) (tasks : List Task) where
   -- there is one verdict up to H
   pub verdict-unique : (H : ℕ) (v u : Verdict) → IsVerdict g tasks H v → IsVerdict g tasks H u → v ≡ u
   verdict-unique H holds holds a b = refl
-  verdict-unique H holds (overrun t) a b = absurd (meets-or-overruns g tasks t (a t (b .0) (b .1)) (b .2))
-  verdict-unique H (overrun t) holds a b = absurd (meets-or-overruns g tasks t (b t (a .0) (a .1)) (a .2))
+  verdict-unique H holds (overrun t) a b = absurd (never-both g tasks t (a t (b .0) (b .1)) (b .2))
+  verdict-unique H (overrun t) holds a b = absurd (never-both g tasks t (b t (a .0) (a .1)) (a .2))
   verdict-unique H (overrun t) (overrun u) a b =
       ⊎-elim
-      (λ l. absurd (meets-or-overruns g tasks t (b .3 t (a .0) l) (a .2)))
-      (λ l. ⊎-elim (λ e. ap overrun (sym e)) (λ m. absurd (meets-or-overruns g tasks u (a .3 u (b .0) m) (b .2))) (eq-or-lt-of-le l))
+      (λ l. absurd (never-both g tasks t (b .3 t (a .0) l) (a .2)))
+      (λ l. ⊎-elim (λ e. ap overrun (sym e)) (λ m. absurd (never-both g tasks u (a .3 u (b .0) m) (b .2))) (eq-or-lt-of-le l))
       (lt-or t u)
 
   tells-false : (over : ℕ → Bool) (t : ℕ) → Tells g tasks over t → over t ≡ false → Meets g tasks t
@@ -71,21 +71,14 @@ module _ (g : Graph) (sound : Sound g) (tasks : List Task) where
   amount-tells : (t : ℕ) → t ≤ longestTime → Tells g tasks (overByAmount g tasks) t
   amount-tells t h =
       let f : ℕ = fixedSum tasks t in
-      let d : ℕ = demandOf g t in
       let x : ℕ = shortestOf g (suc (t - f)) in
-      let both : (t < d + f) ↔ ((t < f) ⊎ (x ≤ t)) = by-amount g tasks t d (demand-of g sound t) x h (shortest-of g sound (suc (t - f))) in
+      let over : Overruns g tasks t ↔ ((t < f) ⊎ (x ≤ t)) = overruns-by-amount g tasks t _ (demand-of g sound t) x h (shortest-of g sound (suc (t - f))) in
+      let met : Meets g tasks t ↔ ((f ≤ t) × (t < x)) = meets-by-amount g tasks t _ (demand-of g sound t) x h (shortest-of g sound (suc (t - f))) in
       ⊎-elim
-      (λ p. inl (rw (p .1), overruns g tasks t d (demand-of g sound t) (both .1 (inl (p .0)))))
+      (λ p. inl (rw (p .1), over .1 (inl (p .0))))
       (λ p. ⊎-elim
-      (λ q. inl (rw (p .1) (q .1), overruns g tasks t d (demand-of g sound t) (both .1 (inr (q .0)))))
-      (λ q. inr (
-        rw (p .1) (q .1),
-        meets g tasks t d (demand-of g sound t)
-            (⊎-elim
-            (λ l. absurd (⊎-elim (λ m. omega (arith, p .0)) (λ m. omega (arith, q .0)) (both .0 l)))
-            (λ l. l)
-            (lt-or t (d + f))),
-      ))
+      (λ q. inl (rw (p .1) (q .1), over .1 (inr (q .0))))
+      (λ q. inr (rw (p .1) (q .1), met .1 (omega (arith, p .0), q .0)))
       (le-or x t))
       (le-or (suc t) f)
 

@@ -11,7 +11,7 @@ use Rattle.walks.specs.Extreme.{Before, First}
 use Rattle.walks.specs.Demand.{Attains, IsDemand, IsWitness}
 use Rattle.walks.specs.Cells.{InTimeFrom, IsBestFrom}
 use Rattle.walks.proofs.Tests.{lt-or}
-use Rattle.walks.proofs.Sequences.{head-in, end-at-least-deadline, amount-at-least-first, same-amount-same-end}
+use Rattle.walks.proofs.Sequences.{any-step, head-in, end-at-least-deadline, amount-at-least-first, same-amount-same-end}
 
 -- row k and the rows of a list after it are a sequence in time with exactly the work r
 abbrev pub AttainsFrom : Graph → ℕ → ℕ → ℕ → List ℕ → Type 0
@@ -39,7 +39,7 @@ module _ (g : Graph) (s k r : ℕ) (hk : k < g .rows) where
     at-most-left : (i : ℕ) → i < g .rows → 0 < g .gap k i → g .gap k i ≤ s → cell i ≤ r - g .length k
     at-most-left i hi p q =
         ⊎-elim
-        (λ u. omega (arith, u .2, best .bound (i ∷ u .0) ((hk, p, u .1 .0), omega (arith, u .1 .1))))
+        (λ u. omega (arith, u .2, best .bound (i ∷ u .0) (any-step g k i (u .0) hk p (u .1 .0), omega (arith, u .1 .1))))
         (λ u. omega (arith, u .0))
         (right i hi p q .reached)
 
@@ -65,7 +65,7 @@ module _ (g : Graph) (s k r : ℕ) (hk : k < g .rows) where
         → ((i : ℕ) → i < j → 0 < g .gap k i → g .gap k i ≤ s → cell i ≡ r - g .length k → ⊥)
         → (rest : List ℕ) → First (AttainsFrom g j (s - g .gap k j) (r - g .length k)) rest → First (AttainsFrom g k s r) (j ∷ rest)
     more j p q earlier rest first = record {
-      allowed = (((hk, p, first .allowed .0 .0), omega (arith, first .allowed .0 .1)), omega (arith, first .allowed .1));
+      allowed = ((any-step g k j rest hk p (first .allowed .0 .0), omega (arith, first .allowed .0 .1)), omega (arith, first .allowed .1));
       least = go;
     }
       where
