@@ -1,5 +1,5 @@
 -- The table by amount: what one follower gives, what a cell is from the cells of smaller amounts, and the shortest interval from the cells of one amount.
-use mathlib.Core.Path.{_≡_, refl, _∙_, sym}
+use mathlib.Core.Path.{_≡_, refl, _∙_}
 use mathlib.Core.Logic.{_⊎_, inl, inr, ⊎-elim}
 use mathlib.Core.List.{List, [], _∷_}
 use Prim.Native.Nat.{ℕ, zero, suc, _+_, _-_, _≤_, _<_}
@@ -23,7 +23,7 @@ time-kept t h = rw (le-leb t longestTime h)
 pub time-none : (t : ℕ) → longestTime < t → timeOrNone t ≡ noTime
 time-none t h = rw (lt-leb t longestTime h)
 
--- one or the other
+-- every time is one or the other
 pub time-or : (t : ℕ) → ((timeOrNone t ≡ t) × (t ≤ longestTime)) ⊎ ((timeOrNone t ≡ noTime) × (longestTime < t))
 time-or t = ⊎-elim (λ p. inl (time-kept t (p .0), p .0)) (λ p. inr (time-none t (p .0), p .0)) (le-or t longestTime)
 
@@ -32,11 +32,11 @@ module _ (gap : ℕ → ℕ) (table : ℕ → ℕ → ℕ) (left j : ℕ) where
   pub via-least-is : 0 < gap j → viaLeastAt gap table left j ≡ timeOrNone (gap j + table left j)
   via-least-is p = rw (lt-ltb 0 (gap j) p)
 
-  -- not too long
+  -- a follower that is not too long gives just that
   pub via-least-take : 0 < gap j → gap j + table left j ≤ longestTime → viaLeastAt gap table left j ≡ gap j + table left j
   via-least-take p q = via-least-is p ∙ time-kept (gap j + table left j) q
 
-  -- too long
+  -- a follower that is too long gives none
   pub via-least-late : longestTime < gap j + table left j → viaLeastAt gap table left j ≡ noTime
   via-least-late q =
       ⊎-elim
@@ -64,13 +64,15 @@ module _ (n length deadline : ℕ) (gap : ℕ → ℕ) (table : ℕ → ℕ → 
   least-done time h e = rw (lt-leb a length h) e
 
 -- the table is right at every cell that row k reads for the amount a
-abbrev pub RightBelow : Graph → (ℕ → ℕ → ℕ) → ℕ → ℕ → Type 0
-RightBelow g table a k = (j : ℕ) → j < g .rows → 0 < g .gap k j → g .length k < a → IsLeastFrom g j (a - g .length k) (table (a - g .length k) j)
+abbrev pub LeastBelow : Graph → (ℕ → ℕ → ℕ) → ℕ → ℕ → Type 0
+LeastBelow g table a k = (j : ℕ) → j < g .rows → 0 < g .gap k j → g .length k < a → IsLeastFrom g j (a - g .length k) (table (a - g .length k) j)
 
-module _ (g : Graph) (sound : Sound g) (table : ℕ → ℕ → ℕ) (a k : ℕ) (hk : k < g .rows) (below : RightBelow g table a k) where
+module _ (g : Graph) (sound : Sound g) (table : ℕ → ℕ → ℕ) (a k : ℕ) (hk : k < g .rows) (below : LeastBelow g table a k) where
+  -- the end time by way of each follower
   via : ℕ → ℕ
   via = viaLeastAt (g .gap k) table (a - g .length k)
 
+  -- one job is enough, so its deadline is the least
   one-is : a ≤ g .length k → IsLeastFrom g k a (timeOrNone (g .deadline k))
   one-is h =
       ⊎-elim
@@ -83,6 +85,7 @@ module _ (g : Graph) (sound : Sound g) (table : ℕ → ℕ → ℕ) (a k : ℕ)
       rw (c .0) record { bound = λ rest e. absurd (no-list rest e); reached = inr (refl, no-list) })
       (time-or (g .deadline k))
 
+  -- where it is not, no sequence ends before the best follower says
   more-bound : g .length k < a → (rest : List ℕ) → EnoughFrom g k a rest → minBelow (g .rows) noTime via ≤ endFrom g k rest
   unfolding via
   more-bound l [] h = absurd (omega (arith, h .1))
@@ -95,6 +98,7 @@ module _ (g : Graph) (sound : Sound g) (table : ℕ → ℕ → ℕ) (a k : ℕ)
         min-le (g .rows) noTime (viaLeastAt (g .gap k) table (a - g .length k)) j hj,
       )
 
+  -- and one ends just then, if any has enough work
   more-reached : g .length k < a
       → ((rest : List ℕ) × EnoughFrom g k a rest × (endFrom g k rest ≡ minBelow (g .rows) noTime via))
       ⊎ ((minBelow (g .rows) noTime via ≡ noTime) × ((rest : List ℕ) → EnoughFrom g k a rest → ⊥))
@@ -116,7 +120,7 @@ module _ (g : Graph) (sound : Sound g) (table : ℕ → ℕ → ℕ) (a k : ℕ)
       (λ m. inr (m, λ rest e. omega (arith, more-bound l rest e, m, e .2)))
       (min-at (g .rows) noTime (viaLeastAt (g .gap k) table (a - g .length k)))
 
-  -- a table that is right below gives a right cell
+  -- a table that is right at smaller amounts gives a right cell
   pub least-step-is : IsLeastFrom g k a (leastStep g table a k)
   unfolding leastAt via
   least-step-is =
@@ -134,6 +138,7 @@ least-within-is g sound (suc fuel) a k h hk =
     (λ j hj p q. least-within-is g sound fuel (a - g .length k) j (omega (arith, sound .length-positive k hk)) hj)
 
 module _ (g : Graph) (b : ℕ) (cell : ℕ → ℕ) (right : (k : ℕ) → k < g .rows → IsLeastFrom g k b (cell k)) where
+  -- no sequence with enough work ends before every cell
   shortest-bound : (w : List ℕ) → Enough g b w → minBelow (g .rows) noTime cell ≤ endTime g w
   shortest-bound [] h = absurd (h .0)
   shortest-bound (k ∷ rest) h =

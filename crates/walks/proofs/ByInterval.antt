@@ -48,13 +48,15 @@ module _ (n length deadline : ℕ) (gap : ℕ → ℕ) (table : ℕ → ℕ → 
   step-done most h e = rw (le-leb deadline s h) (ap (λ (x : ℕ). length + x) e)
 
 -- the table is right at every cell that row k reads at s
-abbrev pub RightBelow : Graph → (ℕ → ℕ → ℕ) → ℕ → ℕ → Type 0
-RightBelow g table s k = (j : ℕ) → j < g .rows → 0 < g .gap k j → g .gap k j ≤ s → IsBestFrom g j (s - g .gap k j) (table (s - g .gap k j) j)
+abbrev pub BestBelow : Graph → (ℕ → ℕ → ℕ) → ℕ → ℕ → Type 0
+BestBelow g table s k = (j : ℕ) → j < g .rows → 0 < g .gap k j → g .gap k j ≤ s → IsBestFrom g j (s - g .gap k j) (table (s - g .gap k j) j)
 
-module _ (g : Graph) (sound : Sound g) (table : ℕ → ℕ → ℕ) (s k : ℕ) (hk : k < g .rows) (below : RightBelow g table s k) where
+module _ (g : Graph) (sound : Sound g) (table : ℕ → ℕ → ℕ) (s k : ℕ) (hk : k < g .rows) (below : BestBelow g table s k) where
+  -- what each follower adds
   via : ℕ → ℕ
   via = viaAt (g .gap k) table s
 
+  -- no sequence in time has more work than the best follower says
   best-bound : (rest : List ℕ) → InTimeFrom g k s rest → amountFrom g k rest ≤ g .length k + maxBelow (g .rows) via
   unfolding via
   best-bound [] h = omega arith
@@ -65,6 +67,7 @@ module _ (g : Graph) (sound : Sound g) (table : ℕ → ℕ → ℕ) (s k : ℕ)
       let cell : amountFrom g j rest ≤ table (s - g .gap k j) j = below j hj p q .bound rest (h .0 .2, omega (arith, h .1)) in
       omega (arith, via-take (g .gap k) table s j p q, max-ge (g .rows) (viaAt (g .gap k) table s) j hj)
 
+  -- and one has just that, if the row itself is in time
   best-reached : g .deadline k ≤ s → (rest : List ℕ) × InTimeFrom g k s rest × (amountFrom g k rest ≡ g .length k + maxBelow (g .rows) via)
   unfolding via
   best-reached d =
@@ -80,10 +83,11 @@ module _ (g : Graph) (sound : Sound g) (table : ℕ → ℕ → ℕ) (s k : ℕ)
       (λ m. ([], (hk, omega arith), omega (arith, m)))
       (max-at (g .rows) (viaAt (g .gap k) table s))
 
+  -- before the row's deadline no sequence is in time
   none-in-time : s < g .deadline k → (rest : List ℕ) → InTimeFrom g k s rest → ⊥
   none-in-time d rest h = omega (arith, h .1, end-at-least-deadline g sound k rest (h .0))
 
-  -- a table that is right below gives a right cell
+  -- a table that is right at shorter intervals gives a right cell
   pub best-step-is : IsBestFrom g k s (bestStep g table s k)
   unfolding stepAt via
   best-step-is =
@@ -100,6 +104,7 @@ best-within-is g sound (suc fuel) s k h hk =
     best-step-is g sound (bestWithin g fuel) s k hk (λ j hj p q. best-within-is g sound fuel (s - g .gap k j) j (omega arith) hj)
 
 module _ (g : Graph) (sound : Sound g) (t : ℕ) (cell : ℕ → ℕ) (right : (k : ℕ) → k < g .rows → IsBestFrom g k t (cell k)) where
+  -- no sequence in time has more work than every cell
   demand-bound : (w : List ℕ) → InTime g t w → amount g w ≤ maxBelow (g .rows) cell
   demand-bound [] h = absurd (h .0)
   demand-bound (k ∷ rest) h =

@@ -11,9 +11,11 @@ use mir.Facts.{toZ-pos, toZ-ofZ}
 use Rattle.walks.proofs.Tests.{le-or}
 use Rattle.walks.proofs.Margins.{difference}
 
+-- a difference is no larger than what it is made from
 size-sub : (M t n : ℕ) → t < M → n < M → mag (subℕ t n) < M
 size-sub M t n a b = ⊎-elim (λ p. rw (p .1) (omega arith)) (λ p. rw (p .1) (omega arith)) (le-or (suc t) n)
 
+-- both numbers are what their bits say
 bits-sub : (t n : ℕ) → t < 2 ^ 63 → n < 2 ^ 63 → toZ w64 t -ℤ toZ w64 n ≡ pos t -ℤ pos n
 bits-sub t n a b = ap₂ _-ℤ_ (toZ-pos w64 a) (toZ-pos w64 b)
 

@@ -58,6 +58,7 @@ module _ (g : Graph) (sound : Sound g) where
   unfolding marginOf
   margin-of tasks t = (demandOf g t, demand-of t, refl)
 
+  -- what the test of a follower says
   goes-on-true : (s k r j : ℕ) → goesOn g s k r j ≡ true → (0 < g .gap k j) × (g .gap k j ≤ s) × (best g (s - g .gap k j) j ≡ r - g .length k)
   goes-on-true s k r j h =
       ⊎-elim
@@ -68,9 +69,11 @@ module _ (g : Graph) (sound : Sound g) where
       (λ p. absurd (false≢true (rw (p .1) at h)))
       (le-or 1 (g .gap k j))
 
+  -- what makes it pass
   goes-on : (s k r j : ℕ) → 0 < g .gap k j → g .gap k j ≤ s → best g (s - g .gap k j) j ≡ r - g .length k → goesOn g s k r j ≡ true
   goes-on s k r j p q e = rw (lt-ltb 0 (g .gap k j) p, le-leb (g .gap k j) s q) (eq-eqb _ _ e)
 
+  -- the rows after the first are found one after another
   rest-is : (fuel s k r : ℕ) → s < fuel → k < g .rows → 0 < r → IsBestFrom g k s r → First (AttainsFrom g k s r) (restWithin g fuel s k r)
   unfolding restWithin
   rest-is zero s k r h hk p b = absurd (not-suc-le-zero h)

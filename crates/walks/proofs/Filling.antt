@@ -59,12 +59,12 @@ module _ (n : ℕ) (Right : ℕ → ℕ → ℕ → Type 0) (old : List ℕ) whe
 
 module _ (g : Graph) (old : List ℕ) where
   -- an area filled by interval is determined
-  pub by-interval-unique : (a b : List ℕ) (used : ℕ) → 0 < g .rows → Filled (g .rows) (ByInterval g) old a used → Filled (g .rows) (ByInterval g) old b used → a ≡ b
-  by-interval-unique = filled-unique (g .rows) (ByInterval g) old (λ s k. best-unique g k s)
+  pub filled-by-interval-unique : (a b : List ℕ) (used : ℕ) → 0 < g .rows → Filled (g .rows) (ByInterval g) old a used → Filled (g .rows) (ByInterval g) old b used → a ≡ b
+  filled-by-interval-unique = filled-unique (g .rows) (ByInterval g) old (λ s k. best-unique g k s)
 
   -- an area filled by amount is determined
-  pub by-amount-unique : (a b : List ℕ) (used : ℕ) → 0 < g .rows → Filled (g .rows) (ByAmount g) old a used → Filled (g .rows) (ByAmount g) old b used → a ≡ b
-  by-amount-unique = filled-unique (g .rows) (ByAmount g) old (λ line k. least-unique g k (line + 1))
+  pub filled-by-amount-unique : (a b : List ℕ) (used : ℕ) → 0 < g .rows → Filled (g .rows) (ByAmount g) old a used → Filled (g .rows) (ByAmount g) old b used → a ≡ b
+  filled-by-amount-unique = filled-unique (g .rows) (ByAmount g) old (λ line k. least-unique g k (line + 1))
 
 module _ (g : Graph) (sound : Sound g) (old cells : List ℕ) where
   -- what the step makes of an area filled by interval up to a cell is right for that cell

@@ -65,6 +65,7 @@ module _ (g : Graph) (tasks : List Task) where
     )
 
     module _ (x : ℕ) (ht : t ≤ longestTime) (shortest : IsShortest g (suc (t - fixedSum tasks t)) x) where
+      -- the same of the numbers alone
       sums : (t < d + fixedSum tasks t) ↔ ((t < fixedSum tasks t) ⊎ (x ≤ t))
       sums = by-amount g t d (fixedSum tasks t) x ht demand shortest
 

@@ -32,10 +32,12 @@ module _ (g : Graph) (tasks : List Task) where
       (λ l. ⊎-elim (λ e. ap overrun (sym e)) (λ m. absurd (never-both g tasks u (a .3 u (b .0) m) (b .2))) (eq-or-lt-of-le l))
       (lt-or t u)
 
+  -- what a right test passes over is met
   tells-false : (over : ℕ → Bool) (t : ℕ) → Tells g tasks over t → over t ≡ false → Meets g tasks t
   tells-false over t (inl p) e = absurd (false≢true (sym e ∙ p .0))
   tells-false over t (inr p) e = p .1
 
+  -- what it names is overrun
   tells-true : (over : ℕ → Bool) (t : ℕ) → Tells g tasks over t → over t ≡ true → Overruns g tasks t
   tells-true over t (inl p) e = p .1
   tells-true over t (inr p) e = absurd (false≢true (sym (p .0) ∙ e))
@@ -68,6 +70,7 @@ module _ (g : Graph) (sound : Sound g) (tasks : List Task) where
       (λ p. inr (p .1, meets g tasks t _ (demand-of g sound t) (omega (arith, p .0))))
       (le-or (suc t) (demandOf g t + fixedSum tasks t))
 
+  -- the test by amount is right
   amount-tells : (t : ℕ) → t ≤ longestTime → Tells g tasks (overByAmount g tasks) t
   amount-tells t h =
       let f : ℕ = fixedSum tasks t in

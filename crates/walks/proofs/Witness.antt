@@ -1,5 +1,5 @@
 -- The witness is found row by row, each time the first row that still leads to the whole amount.
-use mathlib.Core.Path.{_≡_, refl, sym}
+use mathlib.Core.Path.{_≡_, refl}
 use mathlib.Core.Logic.{inl, inr, ⊎-elim}
 use mathlib.Core.List.{List, [], _∷_, _++_}
 use Prim.Native.Nat.{ℕ, _-_, _≤_, _<_}
@@ -36,6 +36,7 @@ module _ (g : Graph) (s k r : ℕ) (hk : k < g .rows) where
 
   module _ (cell : ℕ → ℕ) (right : (i : ℕ) → i < g .rows → 0 < g .gap k i → g .gap k i ≤ s → IsBestFrom g i (s - g .gap k i) (cell i))
       (best : IsBestFrom g k s r) (l : g .length k < r) where
+    -- no follower leads to more than the rest of the work
     at-most-left : (i : ℕ) → i < g .rows → 0 < g .gap k i → g .gap k i ≤ s → cell i ≤ r - g .length k
     at-most-left i hi p q =
         ⊎-elim
@@ -43,6 +44,7 @@ module _ (g : Graph) (s k r : ℕ) (hk : k < g .rows) where
         (λ u. omega (arith, u .0))
         (right i hi p q .reached)
 
+    -- a sequence that attains the work goes on with a follower whose cell is the rest of it
     leads-on : (i : ℕ) (rest : List ℕ) → AttainsFrom g k s r (i ∷ rest) → (i < g .rows) × (0 < g .gap k i) × (g .gap k i ≤ s) × (cell i ≡ r - g .length k)
     leads-on i rest h =
         let hi : i < g .rows = head-in g i rest (h .0 .0 .2) in
@@ -82,6 +84,7 @@ module _ (g : Graph) (s k r : ℕ) (hk : k < g .rows) where
             (lt-or i j)
 
 module _ (g : Graph) (t d : ℕ) (cell : ℕ → ℕ) (right : (i : ℕ) → i < g .rows → IsBestFrom g i t (cell i)) (demand : IsDemand g t d) (p : 0 < d) where
+  -- a sequence that attains the demand starts at a row whose cell is the demand
   attains-at : (k : ℕ) (rest : List ℕ) → Attains g t d (k ∷ rest) → (k < g .rows) × (cell k ≡ d)
   attains-at k rest h =
       let hk : k < g .rows = head-in g k rest (h .0 .0) in

@@ -32,7 +32,7 @@ ByInterval g s k v = IsBestFrom g k s v
 abbrev pub ByAmount : Graph → ℕ → ℕ → ℕ → Type 0
 ByAmount g i k v = IsLeastFrom g k (i + 1) v
 
--- an area that was `old` and is `new`, when its first `used` cells are right: lines of n cells, where `Right line k v` says that v is right in line `line` at row k
+-- an area in lines of n cells: the first `used` cells are right, as `Right line k v` says of the value v of row k in a line, and the others keep what they held
 pub record Filled (n : ℕ) (Right : ℕ → ℕ → ℕ → Type 0) (old new : List ℕ) (used : ℕ) : Type 0 where
   pub same-length : length new ≡ length old
   pub right : (line k : ℕ) → k < n → line * n + k < used → Right line k (getD new (line * n + k) 0)

@@ -20,7 +20,7 @@ abbrev pub minBelow : ℕ → ℕ → (ℕ → ℕ) → ℕ
 minBelow zero none f = none
 minBelow (suc n) none f = min (minBelow n none f) (f n)
 
--- the first of the `count` numbers from i on that passes a test, i + count where none does; what a test may spare is bound by `let`, here and below, since it then waits
+-- the first of `count` numbers from i on that passes a test, i + count where none does (what a test may spare is bound by `let`, here and below, so that it waits)
 abbrev pub seek : ℕ → ℕ → (ℕ → Bool) → ℕ
 seek zero i test = i
 seek (suc count) i test = let later = seek count (suc i) test in cond (test i) i later

@@ -14,7 +14,7 @@ pub record Smallest (P : List ℕ → Type 0) (f : List ℕ → ℕ) (none r : �
   pub bound : (w : List ℕ) → P w → r ≤ f w
   pub reached : ((w : List ℕ) × P w × (f w ≡ r)) ⊎ ((r ≡ none) × ((w : List ℕ) → P w → ⊥))
 
--- row order: at the first place where two lists differ, the one with the lower row number comes before; a list also comes before what goes on from it
+-- row order: the lower row number at the first difference comes before, and a list comes before one that goes on from it
 abbrev pub Before : List ℕ → List ℕ → Type 0
 Before [] v = Unit {0}
 Before (a ∷ w) [] = ⊥
