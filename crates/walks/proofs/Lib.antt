@@ -1,0 +1,17 @@
+pub mod Tests
+pub mod Folds
+pub mod Seeking
+pub mod Sequences
+pub mod Unique
+pub mod ByInterval
+pub mod ByAmount
+pub mod Witness
+pub mod Filling
+pub mod Existence
+pub mod Agreement
+pub mod Margins
+pub mod Verdicts
+pub mod Differences
+pub mod FixedTasks
+pub mod Bounds
+pub mod Examples
