@@ -1,0 +1,114 @@
+-- How a chain of tests is decided, one test after the other (`search judging`), and what the number of the first broken rule says.
+use Prim.Native.Nat.{ℕ, zero, suc, _+_, _-_, _<_, _≤_}
+use native.Mathlib.Nat.{sub-eq-zero-of-le, suc-ne-zero}
+use native.Mathlib.Numerals.{add-one}
+use native.Mathlib.Omega.{arith}
+use mathlib.Core.Path.{_≡_, _∙_, refl, sym, ap}
+use mathlib.Core.List.{List, [], _∷_}
+use mathlib.Core.Bool.{Bool, true, false, true≢false}
+use lib.Dec.{T, ltb}
+use borrow.Author.Tests.{lt-ltb, le-ltb, le-leb, lt-leb, eq-eqb, ne-eqb, ltb-true, ltb-false}
+use Rattle.sheet.specs.Deciding.{Rule, _when_, pick, firstBroken, anyFrom}
+use Rattle.sheet.specs.Judging.{checked, refusedAt}
+use Rattle.sheet.specs.declared.judging.Taken.{Taken}
+
+pub yes : {A : Type 0} (b : Bool) (x y z : A) → b ≡ true → z ≡ x → z ≡ pick b x y
+unfolding pick
+yes b x y z e h = rw e h
+
+pub no : {A : Type 0} (b : Bool) (x y z : A) → b ≡ false → z ≡ y → z ≡ pick b x y
+unfolding pick
+no b x y z e h = rw e h
+
+-- a call that answered a test's value
+pub told : (r b v : Bool) → r ≡ b → r ≡ v → b ≡ v
+told r b v p q = sym p ∙ q
+
+-- a test's value, answered
+pub is-lt : (a b : ℕ) → a < b → true ≡ ltb a b
+is-lt a b h = sym (lt-ltb a b h)
+
+pub is-not-lt : (a b : ℕ) → b ≤ a → false ≡ ltb a b
+is-not-lt a b h = sym (le-ltb a b h)
+
+-- a call that answered a test's value, as a fact about the numbers
+pub told-lt : (r : Bool) (a b : ℕ) → r ≡ ltb a b → r ≡ true → a < b
+told-lt r a b p q = ltb-true a b (told r (ltb a b) true p q)
+
+pub told-le : (r : Bool) (a b : ℕ) → r ≡ ltb a b → r ≡ false → b ≤ a
+told-le r a b p q = ltb-false a b (told r (ltb a b) false p q)
+
+-- a rule whose test a call answered: it was not broken, and the next rules decide; it was broken
+pub kept : {A : Type 0} (b : Bool) (x y z : A) (r : Bool) → r ≡ b → r ≡ false → z ≡ y → z ≡ pick b x y
+kept b x y z r p q h = no b x y z (told r b false p q) h
+
+pub broke : {A : Type 0} (b : Bool) (x y z : A) (r : Bool) → r ≡ b → r ≡ true → z ≡ x → z ≡ pick b x y
+broke b x y z r p q h = yes b x y z (told r b true p q) h
+
+pub ruleset judging = (no, yes, told, is-lt, is-not-lt, lt-ltb, le-ltb, le-leb, lt-leb, eq-eqb, ne-eqb)
+
+-- a loop that looks for the first number that passes a test, from k up to e
+module _ (f : ℕ → Bool) (k e : ℕ) where
+  any-next : k < e → anyFrom f k (e - k) ≡ pick (f k) true (anyFrom f (k + 1) (e - (k + 1)))
+  unfolding anyFrom
+  any-next h =
+      let m : e - k ≡ suc (e - (k + 1)) = omega arith in
+      rw (m, add-one k) refl
+
+  pub any-hit : k < e → f k ≡ true → anyFrom f k (e - k) ≡ true
+  unfolding pick
+  any-hit h t = any-next h ∙ rw t refl
+
+  pub any-miss : k < e → f k ≡ false → anyFrom f k (e - k) ≡ anyFrom f (k + 1) (e - (k + 1))
+  unfolding pick
+  any-miss h t = any-next h ∙ rw t refl
+
+  pub any-none : e ≤ k → anyFrom f k (e - k) ≡ false
+  unfolding anyFrom
+  any-none h = rw (sub-eq-zero-of-le h) refl
+
+-- every rule's number is above 0: a test that antt computes on a written list
+abbrev pub numbered : List Rule → Bool
+numbered [] = true
+numbered (zero when b ∷ rules) = false
+numbered (suc n when b ∷ rules) = numbered rules
+
+-- no rule of the list is broken
+abbrev pub Kept : List Rule → Type 0
+Kept [] = Unit {0}
+Kept (n when b ∷ rules) = (b ≡ false) × Kept rules
+
+pub all-kept : (rules : List Rule) → T (numbered rules) → firstBroken rules ≡ 0 → Kept rules
+unfolding pick firstBroken
+all-kept [] t e = tt
+all-kept (zero when b ∷ rules) t e = absurd t
+all-kept (suc n when true ∷ rules) t e = absurd (suc-ne-zero n e)
+all-kept (suc n when false ∷ rules) t e = (refl, all-kept rules t e)
+
+module _ (at : ℕ) where
+  decided-ok : (rules : List Rule) (ok : Taken) → T (numbered rules) → firstBroken rules ≡ 0 → checked at rules ok ≡ ok
+  unfolding pick checked firstBroken
+  decided-ok [] ok t e = refl
+  decided-ok (zero when b ∷ rules) ok t e = absurd t
+  decided-ok (suc n when true ∷ rules) ok t e = absurd (suc-ne-zero n e)
+  decided-ok (suc n when false ∷ rules) ok t e = decided-ok rules ok t e
+
+  decided-no : (rules : List Rule) (ok : Taken) → (firstBroken rules ≡ 0 → ⊥) → checked at rules ok ≡ refusedAt (firstBroken rules) at
+  unfolding pick checked firstBroken
+  decided-no [] ok e = absurd (e refl)
+  decided-no (n when true ∷ rules) ok e = refl
+  decided-no (n when false ∷ rules) ok e = decided-no rules ok e
+
+  -- a call answered the number of the first rule that is broken: it is 0, and what follows decides
+  pub pass : (rules : List Rule) (ok r : Taken) (n : ℕ) → T (numbered rules) → n ≡ firstBroken rules → n ≡ 0 → r ≡ ok → r ≡ checked at rules ok
+  pass rules ok r n t e z h = h ∙ sym (decided-ok rules ok t (sym e ∙ z))
+
+  -- it is not 0, and r refuses with it
+  pub stop : (rules : List Rule) (ok r : Taken) (n : ℕ) → n ≡ firstBroken rules → (n ≡ 0 → ⊥) → r ≡ refusedAt n at → r ≡ checked at rules ok
+  stop rules ok r n e z h = h ∙ ap (λ k. refusedAt k at) e ∙ sym (decided-no rules ok (λ q. z (e ∙ q)))
+
+-- neither of two tests held
+pub neither : (a b : Bool) → pick a true b ≡ false → (a ≡ false) × (b ≡ false)
+unfolding pick
+neither true b e = absurd (true≢false e)
+neither false b e = (refl, e)

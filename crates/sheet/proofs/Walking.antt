@@ -1,0 +1,69 @@
+-- The walk over the fields: where a field lies in the file, and what one field makes of the walk.
+use Prim.Native.Nat.{ℕ, suc, _+_, _-_, _≤_, _<_}
+use native.Mathlib.Omega.{arith}
+use mathlib.Core.Path.{_≡_, _∙_, refl, sym, ap}
+use mathlib.Core.List.{List}
+use mathlib.Core.Bool.{Bool, true, false}
+use lib.Dec.{ltb}
+use lib.ListN.{length, getD}
+use borrow.Author.Tests.{ltb-false}
+use Rattle.sheet.specs.Deciding.{pick}
+use Rattle.sheet.specs.Fields.{kindOf, isRefused}
+use Rattle.sheet.specs.Reading.{fieldAt, wordAt}
+use Rattle.sheet.specs.Judging.{fieldJudged, onField, walk, refusal}
+use Rattle.sheet.specs.declared.fields.Kind.{Kind}
+use Rattle.sheet.specs.declared.reader.Step.{Step}
+use Rattle.sheet.specs.declared.reader.Step.the-variants.{Field, Refusal}
+use Rattle.sheet.specs.declared.values.Sheet.{Sheet}
+use Rattle.sheet.specs.declared.Judged.{Judged}
+use Rattle.sheet.specs.declared.judging.Taken.{Taken}
+
+apart : (n p a l x : ℕ) (k : Kind) → Refusal n p ≡ Field k a l x → ⊥
+apart n p a l x k e = let z : _≡_ {A = ℕ} 0 1 = cc in omega arith
+
+inside : (b₁ b₂ b₃ : Bool) (at a l x a′ l′ x′ : ℕ) (k k′ : Kind)
+    → pick b₁ (Refusal 1 at) (pick b₂ (Refusal 2 at) (pick b₃ (Refusal 1 at) (Field k a l x))) ≡ Field k′ a′ l′ x′
+    → (b₃ ≡ false) × (a ≡ a′) × (l ≡ l′) × (x ≡ x′)
+unfolding pick
+inside true b₂ b₃ at a l x a′ l′ x′ k k′ e = absurd (apart _ _ _ _ _ _ e)
+inside false true b₃ at a l x a′ l′ x′ k k′ e = absurd (apart _ _ _ _ _ _ e)
+inside false false true at a l x a′ l′ x′ k k′ e = absurd (apart _ _ _ _ _ _ e)
+inside false false false at a l x a′ l′ x′ k k′ e = (refl, cc, cc, cc)
+
+-- a field's content lies in the file, behind its header and right before the next field
+pub field-in : (bytes : List ℕ) (at : ℕ) (k : Kind) (a l x : ℕ) → fieldAt bytes at ≡ Field k a l x
+    → (at + 3 ≡ a) × (a + l ≡ x) × (x ≤ length bytes)
+unfolding fieldAt
+field-in bytes at k a l x e =
+    let i =
+        inside (ltb (length bytes) (at + 3)) (isRefused (kindOf (getD bytes at 0))) (ltb (length bytes) (at + 3 + wordAt bytes (at + 1)))
+        at (at + 3) (wordAt bytes (at + 1)) (at + 3 + wordAt bytes (at + 1)) a l x (kindOf (getD bytes at 0)) k e in
+    let h : at + 3 + wordAt bytes (at + 1) ≤ length bytes = ltb-false _ _ (i .0) in
+    (i .1, omega (arith, i .1, i .2, i .3), omega (arith, i .3))
+
+module _ (bytes : List ℕ) (at n : ℕ) (sheet : Sheet) (more : 0 < n) where
+  walk-next : walk bytes n at sheet ≡ onField bytes sheet at (walk bytes (n - 1)) (fieldAt bytes at)
+  unfolding walk
+  walk-next = let m : n ≡ suc (n - 1) = omega arith in ap (λ j. walk bytes j at sheet) m
+
+  -- where no field can be read, the walk refuses
+  pub walk-refused : (f : Step) (i p : ℕ) → f ≡ fieldAt bytes at → f ≡ Refusal i p → walk bytes n at sheet ≡ refusal i p
+  unfolding onField
+  walk-refused f i p e t = walk-next ∙ ap (onField bytes sheet at (walk bytes (n - 1))) (sym e ∙ t)
+
+  module _ (f : Step) (k : Kind) (a l x : ℕ) (j : Taken) (e : f ≡ fieldAt bytes at) (t : f ≡ Field k a l x) (d : j ≡ fieldJudged bytes sheet k at a l x) where
+    walk-field : walk bytes n at sheet ≡ pick (j .over) (j .judged) (walk bytes (n - 1) x (j .judged .sheet))
+    unfolding onField
+    walk-field =
+        walk-next ∙ ap (onField bytes sheet at (walk bytes (n - 1))) (sym e ∙ t)
+        ∙ ap (λ v. pick (v .over) (v .judged) (walk bytes (n - 1) x (v .judged .sheet))) (sym d)
+
+    -- a field that ends the walk gives its answer
+    pub walk-over : j .over ≡ true → walk bytes n at sheet ≡ j .judged
+    unfolding pick
+    walk-over o = walk-field ∙ rw o
+
+    -- any other leaves it to the rest of the file
+    pub walk-on : j .over ≡ false → walk bytes n at sheet ≡ walk bytes (n - 1) x (j .judged .sheet)
+    unfolding pick
+    walk-on o = walk-field ∙ rw o

@@ -1,0 +1,86 @@
+-- `judge` meets its contract. The loop walks as the definition does: what is left of the file, from where it stands and with the sheet so far, decides as the whole file does.
+use Prim.Native.Nat.{ℕ, _+_, _-_, _≤_, _<_}
+use Rattle.sheet.proofs.Walking.{field-in, walk-refused, walk-over, walk-on}
+use Rattle.sheet.proofs.judge.Statement.{statement}
+use Rattle.sheet.specs.Judging.{judged, walk}
+use borrow.Author.Needs.{needs}
+use denote.Ref.{now}
+use lib.ListN.{length}
+use mathlib.Core.Path.{_≡_, _∙_, refl, sym}
+use native.Mathlib.Omega.{arith}
+use Rattle.sheet.proofs.judge.Tie as tie
+
+abbrev Inv-loop : tie.InvT-loop
+Inv-loop bytes sheet₀ at₀ sheet at = (n : ℕ) × (at ≤ length bytes) × (length bytes < n + at) × (judged bytes ≡ walk bytes n at sheet)
+
+abbrev μ-loop : tie.MeasureT-loop
+μ-loop bytes sheet₀ at₀ sheet at = length bytes - at
+
+empty-requires : tie.Need-empty-requires Inv-loop μ-loop
+empty-requires c κs = search needs
+
+-- the field that was read lies in the file
+lies : (c : tie.After-known-told2 Inv-loop μ-loop) →
+    let v = c .before .step2 .given .0 in
+    (c .before .before .before .before .loop .at + 3 ≡ v .1 .0) × (v .1 .0 + v .1 .1 .0 ≡ v .1 .1 .1 .0) × (v .1 .1 .1 .0 ≤ length (now (c .before .before .before .before .before .before .before .args .bytes)))
+lies c = field-in _ _ _ _ _ _ (sym (c .before .before .before .field-at .ensures) ∙ c .before .step2 .given .1)
+
+loop-holds : tie.Need-loop-holds Inv-loop μ-loop
+unfolding judged
+loop-holds c =
+    let l = length (now (c .before .before .args .bytes)) in
+    (l + 1, omega arith, omega arith, rw (c .empty .ensures) refl)
+
+field-at-requires : tie.Need-field-at-requires Inv-loop μ-loop
+field-at-requires c κs = search needs
+
+enum-known-step : tie.Need-enum-known-step Inv-loop μ-loop
+enum-known-step c = search needs
+
+refused-requires : tie.Need-refused-requires Inv-loop μ-loop
+refused-requires c κs = search needs
+
+returns : tie.Need-returns Inv-loop μ-loop
+returns c =
+    let l = c .before .before .before .before .before .loop .inv in
+    c .refused .ensures ∙ sym (l .3 ∙ walk-refused _ _ _ _ (omega arith) _ _ _ (c .before .before .before .before .field-at .ensures) (c .before .before .step .given .1))
+
+enum-known-step-2 : tie.Need-enum-known-step-2 Inv-loop μ-loop
+enum-known-step-2 c = search needs
+
+judge-field-requires : tie.Need-judge-field-requires Inv-loop μ-loop
+judge-field-requires c κs = omega (arith, lies c)
+
+returns-2 : tie.Need-returns-2 Inv-loop μ-loop
+returns-2 c =
+    let d = c .before .before .before in
+    let l = d .before .before .before .before .loop .inv in
+    sym (l .3 ∙ walk-over _ _ _ _ (omega arith) _ _ _ _ _ _ (d .before .before .before .field-at .ensures) (d .before .step2 .given .1) (c .before .before .judge-field .ensures) (c .if1 .taken))
+
+loop-less : tie.Need-loop-less Inv-loop μ-loop
+loop-less c = omega (arith, lies (c .before .before .before .before))
+
+loop-again : tie.Need-loop-again Inv-loop μ-loop
+loop-again c =
+    let d = c .before .before .before .before in
+    let l = d .before .before .before .before .loop .inv in
+    (l .0 - 1, lies d .2, omega (arith, lies d),
+    l .3 ∙ walk-on _ _ _ _ (omega arith) _ _ _ _ _ _ (d .before .before .before .field-at .ensures) (d .before .step2 .given .1) (c .before .before .before .judge-field .ensures) (c .before .if1 .left))
+
+pub judge-spec : {M : Type 1} → statement M
+judge-spec =
+    tie.close
+    (tie.spec
+    Inv-loop
+    μ-loop
+    empty-requires
+    loop-holds
+    field-at-requires
+    enum-known-step
+    refused-requires
+    returns
+    enum-known-step-2
+    judge-field-requires
+    returns-2
+    loop-less
+    loop-again)

@@ -1,0 +1,68 @@
+-- `bad_text` meets its contract. The bytes that are left decide as all of them do.
+use Prim.Native.Nat.{_-_, _≤_}
+use Rattle.sheet.proofs.Deciding.{told, any-hit, any-miss, any-none}
+use Rattle.sheet.proofs.judging.bad_text.Statement.{statement}
+use Rattle.sheet.specs.Deciding.{anyFrom}
+use Rattle.sheet.specs.Rules.{badByte, badText}
+use borrow.Author.Needs.{needs}
+use lib.ListN.{length, getD}
+use mathlib.Core.Path.{_≡_, _∙_, refl, sym}
+use native.Mathlib.Nat.{add-sub-cancel-left}
+use native.Mathlib.Omega.{arith}
+use Rattle.sheet.proofs.judging.bad_text.Tie as tie
+
+abbrev Inv-loop : tie.InvT-loop
+Inv-loop bytes start size at₀ end at = (at ≤ end) × (end ≤ length bytes) × (badText bytes start size ≡ anyFrom (λ k. badByte (getD bytes k 0)) at (end - at))
+
+abbrev μ-loop : tie.MeasureT-loop
+μ-loop bytes start size at₀ end at = end - at
+
+add-end : tie.Need-add-end Inv-loop μ-loop
+add-end c = omega arith
+
+loop-holds : tie.Need-loop-holds Inv-loop μ-loop
+unfolding badText
+loop-holds c =
+    let a = c .before .args in
+    (omega arith, omega arith, rw (add-sub-cancel-left (a .start) (a .size)) refl)
+
+shared-slice-read-bad-byte : tie.Need-shared-slice-read-bad-byte Inv-loop μ-loop
+shared-slice-read-bad-byte c = omega arith
+
+bad-byte-requires : tie.Need-bad-byte-requires Inv-loop μ-loop
+bad-byte-requires c κs = search needs
+
+returns : tie.Need-returns Inv-loop μ-loop
+returns c =
+    let l = c .before .before .before .before .loop in
+    sym (l .inv .2 ∙ any-hit _ _ _ (c .before .before .before .loop-test .taken) (told _ _ _ (c .before .bad-byte .ensures) (c .if1 .taken)))
+
+add-at : tie.Need-add-at Inv-loop μ-loop
+add-at c = omega arith
+
+loop-less : tie.Need-loop-less Inv-loop μ-loop
+loop-less c = omega arith
+
+loop-again : tie.Need-loop-again Inv-loop μ-loop
+loop-again c =
+    let l = c .before .before .before .before .loop in
+    (omega arith, l .inv .1, l .inv .2 ∙ any-miss _ _ _ (c .before .before .before .loop-test .taken) (told _ _ _ (c .before .bad-byte .ensures) (c .if1 .left)))
+
+returns-2 : tie.Need-returns-2 Inv-loop μ-loop
+returns-2 c = sym (c .before .loop .inv .2 ∙ any-none _ _ _ (c .loop-test .left))
+
+pub bad-text-spec : {M : Type 1} → statement M
+bad-text-spec =
+    tie.close
+    (tie.spec
+    Inv-loop
+    μ-loop
+    add-end
+    loop-holds
+    shared-slice-read-bad-byte
+    bad-byte-requires
+    returns
+    add-at
+    loop-less
+    loop-again
+    returns-2)

@@ -1,0 +1,71 @@
+-- `gap_shorter` meets its contract. The gaps that are left decide as all of them do.
+use Prim.Native.Nat.{_+_, _-_, _*_}
+use Rattle.sheet.proofs.Deciding.{told, any-hit, any-miss, any-none}
+use Rattle.sheet.proofs.judging.gap_shorter.Statement.{statement}
+use Rattle.sheet.specs.Deciding.{anyFrom}
+use Rattle.sheet.specs.Reading.{wordAt}
+use Rattle.sheet.specs.Rules.{gapShorter}
+use borrow.Author.Needs.{needs}
+use lib.Dec.{ltb}
+use mathlib.Core.Path.{_≡_, _∙_, refl, sym}
+use native.Mathlib.Nat.{sub-zero}
+use native.Mathlib.Omega.{arith}
+use Rattle.sheet.proofs.judging.gap_shorter.Tie as tie
+
+abbrev Inv-loop : tie.InvT-loop
+Inv-loop bytes place count bound passed₀ passed = gapShorter bytes place count bound ≡ anyFrom (λ k. ltb (wordAt bytes (place + 2 * k)) (bound .0)) passed (count - passed)
+
+abbrev μ-loop : tie.MeasureT-loop
+μ-loop bytes place count bound passed₀ passed = count - passed
+
+loop-holds : tie.Need-loop-holds Inv-loop μ-loop
+unfolding gapShorter
+loop-holds c = rw sub-zero refl
+
+mul-word-at : tie.Need-mul-word-at Inv-loop μ-loop
+mul-word-at c = omega arith
+
+add-word-at : tie.Need-add-word-at Inv-loop μ-loop
+add-word-at c = omega arith
+
+word-at-requires : tie.Need-word-at-requires Inv-loop μ-loop
+word-at-requires c κs = search needs
+
+shorter-requires : tie.Need-shorter-requires Inv-loop μ-loop
+shorter-requires c κs = search needs
+
+returns : tie.Need-returns Inv-loop μ-loop
+returns c =
+    let l = c .before .before .before .before .loop in
+    sym (l .inv ∙ any-hit _ _ _ (c .before .before .before .loop-test .taken) (rw (← c .before .before .word-at .ensures) (told _ _ _ (c .before .shorter .ensures) (c .if1 .taken))))
+
+add-passed : tie.Need-add-passed Inv-loop μ-loop
+add-passed c = omega arith
+
+loop-less : tie.Need-loop-less Inv-loop μ-loop
+loop-less c = omega arith
+
+loop-again : tie.Need-loop-again Inv-loop μ-loop
+loop-again c =
+    let l = c .before .before .before .before .loop in
+    l .inv ∙ any-miss _ _ _ (c .before .before .before .loop-test .taken) (rw (← c .before .before .word-at .ensures) (told _ _ _ (c .before .shorter .ensures) (c .if1 .left)))
+
+returns-2 : tie.Need-returns-2 Inv-loop μ-loop
+returns-2 c = sym (c .before .loop .inv ∙ any-none _ _ _ (c .loop-test .left))
+
+pub gap-shorter-spec : {M : Type 1} → statement M
+gap-shorter-spec =
+    tie.close
+    (tie.spec
+    Inv-loop
+    μ-loop
+    loop-holds
+    mul-word-at
+    add-word-at
+    word-at-requires
+    shorter-requires
+    returns
+    add-passed
+    loop-less
+    loop-again
+    returns-2)

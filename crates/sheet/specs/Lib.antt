@@ -1,0 +1,9 @@
+pub mod Deciding
+pub mod Limits
+pub mod Fields
+pub mod Reading
+pub mod Values
+pub mod Rules
+pub mod Judging
+pub mod Meaning
+pub mod Proper

@@ -1,0 +1,335 @@
+// How each kind of field is judged, and what it makes of the sheet.
+use crate::Judged;
+use crate::Answer;
+use crate::fields::Kind;
+use crate::reader::long_at;
+use crate::reader::word_at;
+use crate::rules::bad_byte;
+use crate::rules::common_number;
+use crate::rules::mode_number;
+use crate::rules::out_of_order;
+use crate::rules::row_number;
+use crate::rules::task_number;
+use crate::rules::unknown_in;
+use crate::rules::unlike_set;
+use crate::rules::wrong_length;
+use crate::units::Rpm;
+use crate::units::Ticks;
+use crate::values::Mode;
+use crate::values::Part;
+use crate::values::Row;
+use crate::values::Sheet;
+use crate::values::Tally;
+use crate::values::Task;
+use crate::values::row_of;
+ghost use mathlib.Core.Path.{_≡_};
+ghost use Prim.Native.Nat.{_+_, _*_, _<_, _≤_};
+ghost use lib.ListN.{length};
+ghost use Rattle.sheet.specs.Deciding.{firstBroken};
+ghost use Rattle.sets.specs.Sets.{below};
+ghost use Rattle.sheet.specs.Reading.{rpmAt, ticksAt, modeAt, rowAt, taskAt};
+ghost use Rattle.sheet.specs.Rules.{badText, gapShorter, wrongRow, unknownFollower, rowGapRules};
+ghost use Rattle.sheet.specs.Values.{withLabel, withMode, withRow, withTask};
+ghost use Rattle.sheet.specs.Judging.{refusal, refusedAt, goesOn, acceptedAs, labelJudged, modeJudged, rowJudged, taskJudged, endJudged, fieldJudged};
+
+// What a field makes of the sheet: whether the file is judged with it, and how the sheet stands.
+pub struct Taken {
+    pub over: bool,
+    pub judged: Judged,
+}
+
+// A field by its kind: it starts at `at`, its content at `start`, the next field at `next`.
+pub(crate) fn judge_field(bytes: &[u8], sheet: Sheet, kind: Kind, at: usize, start: usize, size: usize, next: usize) -> Taken
+    requires { ⌜ start + size ≤ length (now bytes) ⌝ }
+    ensures { λ r. ⌜ r ≡ fieldJudged (now (bytes .entry)) sheet kind at start size next ⌝ }
+{
+    match kind {
+        Kind::RefusedTag => refused_at(2, at),
+        Kind::LabelField => judge_label(bytes, sheet, at, start, size),
+        Kind::ModeField => judge_mode(bytes, sheet, at, start, size),
+        Kind::RowField => judge_row(bytes, sheet, at, start, size),
+        Kind::TaskField => judge_task(bytes, sheet, at, start, size),
+        Kind::EndField => judge_end(bytes, sheet, at, size, next),
+        Kind::SkippedField => goes_on(sheet),
+    }
+}
+
+fn judge_label(bytes: &[u8], sheet: Sheet, at: usize, start: usize, size: usize) -> Taken
+    requires { ⌜ start + size ≤ length (now bytes) ⌝ }
+    ensures { λ r. ⌜ r ≡ labelJudged (now (bytes .entry)) sheet at start size ⌝ }
+{
+    let tally = sheet.tally;
+    let wrong = wrong_length(1, size);
+    let number = common_number(1, tally.last, wrong, 0);
+    if number != 0 {
+        return refused_at(number, at);
+    }
+    if bad_text(bytes, start, size) {
+        return refused_at(7, at);
+    }
+    let grown = with_label(sheet, start, size);
+    goes_on(grown)
+}
+
+fn judge_mode(bytes: &[u8], sheet: Sheet, at: usize, start: usize, size: usize) -> Taken
+    requires { ⌜ start + size ≤ length (now bytes) ⌝ }
+    ensures { λ r. ⌜ r ≡ modeJudged (now (bytes .entry)) sheet at start size ⌝ }
+{
+    let tally = sheet.tally;
+    let wrong = wrong_length(2, size);
+    let number = common_number(2, tally.last, wrong, tally.modes);
+    if number != 0 {
+        return refused_at(number, at);
+    }
+    let mode = mode_at(bytes, start);
+    let own = mode_number(tally, mode);
+    if own != 0 {
+        return refused_at(own, at);
+    }
+    let grown = with_mode(sheet, mode);
+    goes_on(grown)
+}
+
+fn judge_row(bytes: &[u8], sheet: Sheet, at: usize, start: usize, size: usize) -> Taken
+    requires { ⌜ start + size ≤ length (now bytes) ⌝ }
+    ensures { λ r. ⌜ r ≡ rowJudged (now (bytes .entry)) sheet at start size ⌝ }
+{
+    let tally = sheet.tally;
+    let wrong = wrong_row(bytes, start, size);
+    let number = common_number(3, tally.last, wrong, tally.rows);
+    if number != 0 {
+        return refused_at(number, at);
+    }
+    let row = row_at(bytes, start);
+    let own = row_gap_number(bytes, tally, row);
+    if own != 0 {
+        return refused_at(own, at);
+    }
+    let grown = with_row(sheet, row);
+    goes_on(grown)
+}
+
+fn judge_task(bytes: &[u8], sheet: Sheet, at: usize, start: usize, size: usize) -> Taken
+    requires { ⌜ start + size ≤ length (now bytes) ⌝ }
+    ensures { λ r. ⌜ r ≡ taskJudged (now (bytes .entry)) sheet at start size ⌝ }
+{
+    let tally = sheet.tally;
+    let wrong = wrong_length(4, size);
+    let number = common_number(4, tally.last, wrong, tally.tasks);
+    if number != 0 {
+        return refused_at(number, at);
+    }
+    let task = task_at(bytes, start);
+    let own = task_number(task);
+    if own != 0 {
+        return refused_at(own, at);
+    }
+    let grown = with_task(sheet, task);
+    goes_on(grown)
+}
+
+fn judge_end(bytes: &[u8], sheet: Sheet, at: usize, size: usize, next: usize) -> Taken
+    ensures { λ r. ⌜ r ≡ endJudged (now (bytes .entry)) sheet at size next ⌝ }
+{
+    let tally = sheet.tally;
+    if out_of_order(tally.last, 5) {
+        return refused_at(3, at);
+    }
+    if wrong_length(5, size) {
+        return refused_at(5, at);
+    }
+    let rows = sheet.rows;
+    if unknown_follower(rows, tally.rows) {
+        return refused_at(9, at);
+    }
+    if next < bytes.len() {
+        return refused_at(4, next);
+    }
+    accepted_as(sheet)
+}
+
+fn refused_at(number: u8, place: usize) -> Taken
+    ensures { λ r. ⌜ r ≡ refusedAt number place ⌝ }
+{
+    let judged = refused(number, place);
+    Taken { over: true, judged: judged }
+}
+
+// A refused sheet has no values.
+pub(crate) fn refused(number: u8, place: usize) -> Judged
+    ensures { λ r. ⌜ r ≡ refusal number place ⌝ }
+{
+    let sheet = Sheet::empty();
+    Judged { answer: Answer::Refused { number: number, place: place }, sheet: sheet }
+}
+
+fn goes_on(sheet: Sheet) -> Taken
+    ensures { λ r. ⌜ r ≡ goesOn sheet ⌝ }
+{
+    let judged = Judged { answer: Answer::Accepted, sheet: sheet };
+    Taken { over: false, judged: judged }
+}
+
+fn accepted_as(sheet: Sheet) -> Taken
+    ensures { λ r. ⌜ r ≡ acceptedAs sheet ⌝ }
+{
+    let judged = Judged { answer: Answer::Accepted, sheet: sheet };
+    Taken { over: true, judged: judged }
+}
+
+// Rule 7 of a label.
+fn bad_text(bytes: &[u8], start: usize, size: usize) -> bool
+    requires { ⌜ start + size ≤ length (now bytes) ⌝ }
+    ensures { λ r. ⌜ r ≡ badText (now (bytes .entry)) start size ⌝ }
+{
+    let mut at = start;
+    let end = start + size;
+    while at < end {
+        if bad_byte(bytes[at]) {
+            return true;
+        }
+        at += 1;
+    }
+    false
+}
+
+// Rule 5 of a row, whose length the table and its own set decide.
+fn wrong_row(bytes: &[u8], start: usize, size: usize) -> bool
+    requires { ⌜ start + size ≤ length (now bytes) ⌝ }
+    ensures { λ r. ⌜ r ≡ wrongRow (now (bytes .entry)) start size ⌝ }
+{
+    if wrong_length(3, size) {
+        return true;
+    }
+    let followers = long_at(bytes, start + 4);
+    unlike_set(size, followers)
+}
+
+// The rules of a row's numbers and gaps.
+fn row_gap_number(bytes: &[u8], tally: Tally, row: Row) -> u8
+    requires { ⌜ row .gaps + 2 * below (row .followers) 64 ≤ length (now bytes) ⌝ }
+    ensures { λ r. ⌜ r ≡ firstBroken (rowGapRules (now (bytes .entry)) tally row) ⌝ }
+{
+    let gaps = sets::size(row.followers);
+    let zero = gap_shorter(bytes, row.gaps, gaps, Ticks(1));
+    let short = gap_shorter(bytes, row.gaps, gaps, row.deadline);
+    row_number(tally, row, zero, short)
+}
+
+// Whether one of `count` gaps from a place on is shorter than a bound.
+fn gap_shorter(bytes: &[u8], place: usize, count: usize, bound: Ticks) -> bool
+    requires { ⌜ place + 2 * count ≤ length (now bytes) ⌝ }
+    ensures { λ r. ⌜ r ≡ gapShorter (now (bytes .entry)) place count bound ⌝ }
+{
+    let mut passed: usize = 0;
+    while passed < count {
+        let gap = Ticks(word_at(bytes, place + Sheet::GAP * passed));
+        if gap.shorter(bound) {
+            return true;
+        }
+        passed += 1;
+    }
+    false
+}
+
+// Rule 9: one of `count` rows names a row that does not exist.
+fn unknown_follower(rows: [Row; Sheet::ROWS], count: usize) -> bool
+    ensures { λ r. ⌜ r ≡ unknownFollower rows count ⌝ }
+{
+    let mut number: usize = 0;
+    while number < count {
+        let row = row_of(rows, number);
+        if unknown_in(row.followers, count) {
+            return true;
+        }
+        number += 1;
+    }
+    false
+}
+
+fn mode_at(bytes: &[u8], start: usize) -> Mode
+    requires { ⌜ start + 4 ≤ length (now bytes) ⌝ }
+    ensures { λ r. ⌜ r ≡ modeAt (now (bytes .entry)) start ⌝ }
+{
+    let boundary = Rpm(word_at(bytes, start));
+    let length = Ticks(word_at(bytes, start + 2));
+    Mode { boundary: boundary, length: length }
+}
+
+fn row_at(bytes: &[u8], start: usize) -> Row
+    requires { ⌜ start + 8 ≤ length (now bytes) ⌝ }
+    ensures { λ r. ⌜ r ≡ rowAt (now (bytes .entry)) start ⌝ }
+{
+    let speed = Rpm(word_at(bytes, start));
+    let deadline = Ticks(word_at(bytes, start + 2));
+    let followers = long_at(bytes, start + 4);
+    Row { speed: speed, deadline: deadline, followers: followers, gaps: start + Sheet::HEAD }
+}
+
+fn task_at(bytes: &[u8], start: usize) -> Task
+    requires { ⌜ start + 6 ≤ length (now bytes) ⌝ }
+    ensures { λ r. ⌜ r ≡ taskAt (now (bytes .entry)) start ⌝ }
+{
+    let length = Ticks(word_at(bytes, start));
+    let period = Ticks(word_at(bytes, start + 2));
+    let deadline = Ticks(word_at(bytes, start + 4));
+    Task { length: length, period: period, deadline: deadline }
+}
+
+fn with_label(sheet: Sheet, start: usize, size: usize) -> Sheet
+    ensures { λ r. ⌜ r ≡ withLabel sheet start size ⌝ }
+{
+    let mut next = sheet;
+    let part = Part { start: start, size: size };
+    let mut tally = sheet.tally;
+    tally.last = 1;
+    next.label = part;
+    next.tally = tally;
+    next
+}
+
+fn with_mode(sheet: Sheet, mode: Mode) -> Sheet
+    requires { ⌜ sheet .tally .modes < 8 ⌝ }
+    ensures { λ r. ⌜ r ≡ withMode sheet mode ⌝ }
+{
+    let mut next = sheet;
+    let mut tally = sheet.tally;
+    let number = tally.modes;
+    let boundary = mode.boundary;
+    tally.last = 2;
+    tally.modes = number + 1;
+    tally.top = boundary;
+    next.modes[number] = mode;
+    next.tally = tally;
+    next
+}
+
+fn with_row(sheet: Sheet, row: Row) -> Sheet
+    requires { ⌜ sheet .tally .rows < 32 ⌝ }
+    ensures { λ r. ⌜ r ≡ withRow sheet row ⌝ }
+{
+    let mut next = sheet;
+    let mut tally = sheet.tally;
+    let number = tally.rows;
+    let speed = row.speed;
+    tally.last = 3;
+    tally.rows = number + 1;
+    tally.fastest = speed;
+    next.rows[number] = row;
+    next.tally = tally;
+    next
+}
+
+fn with_task(sheet: Sheet, task: Task) -> Sheet
+    requires { ⌜ sheet .tally .tasks < 16 ⌝ }
+    ensures { λ r. ⌜ r ≡ withTask sheet task ⌝ }
+{
+    let mut next = sheet;
+    let mut tally = sheet.tally;
+    let number = tally.tasks;
+    tally.last = 4;
+    tally.tasks = number + 1;
+    next.tasks[number] = task;
+    next.tally = tally;
+    next
+}

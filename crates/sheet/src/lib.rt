@@ -1,0 +1,66 @@
+// The sheet judged: any bytes are read to the end, and accepted with their values or refused by the first broken rule.
+pub mod fields;
+pub mod judging;
+pub mod modes;
+pub mod reader;
+pub mod rules;
+pub mod units;
+pub mod values;
+use judging::judge_field;
+use judging::refused;
+use reader::field_at;
+use reader::Step;
+use values::Sheet;
+ghost use mathlib.Core.Path.{_≡_};
+ghost use Rattle.sheet.specs.Judging.{judged, labelOf};
+
+pub enum Answer {
+    Accepted,
+    Refused {
+        number: u8,
+        place: usize,
+    },
+}
+
+// The answer, with the sheet's values beside it: those of an empty sheet where it is refused.
+pub struct Judged {
+    pub answer: Answer,
+    pub sheet: Sheet,
+}
+
+pub fn judge(bytes: &[u8]) -> Judged
+    ensures { λ r. ⌜ r ≡ judged (now (bytes .entry)) ⌝ }
+{
+    let mut sheet = Sheet::empty();
+    let mut at: usize = 0;
+    loop {
+        let step = field_at(bytes, at);
+        match step {
+            Step::Refusal { number, place } => {
+                return refused(number, place);
+            }
+            Step::Field { kind, start, size, next } => {
+                let taken = judge_field(bytes, sheet, kind, at, start, size, next);
+                let stands = taken.judged;
+                if taken.over {
+                    return stands;
+                }
+                let grown = stands.sheet;
+                sheet = grown;
+                at = next;
+            }
+        }
+    }
+}
+
+// The label, as that part of the caller's bytes; an empty part for a refused sheet.
+pub fn label(bytes: &[u8]) -> &[u8]
+    ensures { λ r. ⌜ now r ≡ labelOf (now (bytes .entry)) ⌝ }
+{
+    let judged = judge(bytes);
+    let sheet = judged.sheet;
+    let part = sheet.label;
+    let from = part.start;
+    let to = from + part.size;
+    &bytes[from..to]
+}
