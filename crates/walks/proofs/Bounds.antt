@@ -87,7 +87,7 @@ module _ (g : Graph) (sound : Sound g) where
       pub demand-fits : (t d : ℕ) → t ≤ longestTime → IsDemand g t d → d < 2 ^ 32
       demand-fits t d ht demand = omega (arith, demand-at-most t d demand, mul-le-mul short ht)
 
--- fixed demand fits 48 bits, for any number of tasks up to `longestTime`
+-- fixed demand fits 48 bits, where neither the lengths nor the number of tasks is above `longestTime`
 pub fixed-fits : (most : ℕ) (tasks : List Task) (default : Task) (t : ℕ) → most ≤ longestTime → length tasks ≤ longestTime → t ≤ longestTime
     → ((i : ℕ) → i < length tasks → (getD tasks i default) .length ≤ most) → fixedSum tasks t < 2 ^ 48
 fixed-fits most tasks default t short few ht none-longer =

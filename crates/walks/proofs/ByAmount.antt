@@ -1,5 +1,5 @@
 -- The table by amount: what one follower gives, what a cell is from the cells of smaller amounts, and the shortest interval from the cells of one amount.
-use mathlib.Core.Path.{_≡_, refl, _∙_}
+use mathlib.Core.Path.{_≡_, refl, _∙_, sym}
 use mathlib.Core.Logic.{_⊎_, inl, inr, ⊎-elim}
 use mathlib.Core.List.{List, [], _∷_}
 use Prim.Native.Nat.{ℕ, zero, suc, _+_, _-_, _≤_, _<_}
@@ -53,10 +53,14 @@ module _ (gap : ℕ → ℕ) (table : ℕ → ℕ → ℕ) (left j : ℕ) where
   via-least-below h = ⊎-elim (λ p. p .0) (λ p. absurd (omega (arith, via-least-none (omega (arith, p .0))))) (le-or 1 (gap j))
 
 module _ (n length deadline : ℕ) (gap : ℕ → ℕ) (table : ℕ → ℕ → ℕ) (a : ℕ) where
-  -- where one job is enough, its deadline
-  pub least-one : a ≤ length → timeOrNone deadline ≡ leastAt n length deadline gap table a
+  -- where one job is enough, its deadline if that is not too long
+  pub least-enough : a ≤ length → timeOrNone deadline ≡ leastAt n length deadline gap table a
   unfolding leastAt
-  least-one h = rw (le-leb a length h)
+  least-enough h = rw (le-leb a length h)
+
+  -- where one job is enough and its deadline is not too long, just that
+  pub least-one : a ≤ length → deadline ≤ longestTime → deadline ≡ leastAt n length deadline gap table a
+  least-one h d = sym (time-kept deadline d) ∙ least-enough h
 
   -- where it is not, the least that a follower gives for the rest
   pub least-done : (time : ℕ) → length < a → time ≡ minBelow n noTime (viaLeastAt gap table (a - length)) → time ≡ leastAt n length deadline gap table a

@@ -20,6 +20,12 @@ use Rattle.walks.proofs.ByAmount.{least-step-is}
 pub in-cells : (line back n j used : ℕ) → line * n ≤ used → 0 < back → back ≤ line → j < n → (line - back) * n + j < used
 in-cells line back n j used a b c d = let h : (line - back) * n + j < line * n = digits-lt (omega arith) d in omega arith
 
+-- the same by amount, where the first line is for the amount 1
+pub in-cells-for : (a back n j used : ℕ) → (a - 1) * n ≤ used → 0 < back → back < a → j < n → (a - back - 1) * n + j < used
+in-cells-for a back n j used b c d e =
+    let same : a - back - 1 ≡ a - 1 - back = omega arith in
+    rw same (in-cells (a - 1) back n j used b c (omega arith) e)
+
 module _ (n : ℕ) (Right : ℕ → ℕ → ℕ → Type 0) (old : List ℕ) where
   -- before the first cell the area is as it was
   pub filled-none : Filled n Right old old 0

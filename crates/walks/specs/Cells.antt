@@ -8,7 +8,7 @@ use Rattle.walks.specs.Sequence.{AllowedFrom, endFrom, amountFrom}
 use Rattle.walks.specs.Extreme.{Largest, Smallest}
 use Rattle.walks.specs.Demand.{longestTime, noTime}
 
--- row k and the rows of a list after it are a sequence whose deadlines have all passed by s
+-- row k and the rows of a list after it are a sequence that ends by s
 abbrev pub InTimeFrom : Graph → ℕ → ℕ → List ℕ → Type 0
 InTimeFrom g k s rest = AllowedFrom g k rest × (endFrom g k rest ≤ s)
 
@@ -16,7 +16,7 @@ InTimeFrom g k s rest = AllowedFrom g k rest × (endFrom g k rest ≤ s)
 abbrev pub IsBestFrom : Graph → ℕ → ℕ → ℕ → Type 0
 IsBestFrom g k s v = Largest (InTimeFrom g k s) (amountFrom g k) v
 
--- row k and the rows of a list after it are a sequence with at least the work a, not beyond the longest time
+-- row k and the rows of a list after it are a sequence with at least the work a that ends by the longest time
 abbrev pub EnoughFrom : Graph → ℕ → ℕ → List ℕ → Type 0
 EnoughFrom g k a rest = AllowedFrom g k rest × (a ≤ amountFrom g k rest) × (endFrom g k rest ≤ longestTime)
 

@@ -15,7 +15,7 @@ longestTime = 65535
 abbrev pub noTime : ℕ
 noTime = 4294967295
 
--- a sequence whose deadlines have all passed by t
+-- a sequence in time: one that ends by t
 abbrev pub InTime : Graph → ℕ → List ℕ → Type 0
 InTime g t w = Allowed g w × (endTime g w ≤ t)
 
@@ -31,10 +31,10 @@ Attains g t d w = InTime g t w × (amount g w ≡ d)
 abbrev pub IsWitness : Graph → ℕ → List ℕ → Type 0
 IsWitness g t w = (d : ℕ) × IsDemand g t d × (((d ≡ 0) × (w ≡ [])) ⊎ ((0 < d) × First (Attains g t d) w))
 
--- a sequence with at least the work b whose end is not beyond the longest time
+-- a sequence with enough work: at least b, and it ends by the longest time
 abbrev pub Enough : Graph → ℕ → List ℕ → Type 0
 Enough g b w = Allowed g w × (b ≤ amount g w) × (endTime g w ≤ longestTime)
 
--- the shortest interval for b: the least end time of a sequence with enough work
+-- the shortest interval for b: the least end time of a sequence with enough work, `noTime` where there is none
 abbrev pub IsShortest : Graph → ℕ → ℕ → Type 0
 IsShortest g b x = Smallest (Enough g b) (endTime g) noTime x

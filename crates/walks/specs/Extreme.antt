@@ -20,7 +20,7 @@ Before [] v = Unit {0}
 Before (a ∷ w) [] = ⊥
 Before (a ∷ w) (b ∷ v) = (a < b) ⊎ ((a ≡ b) × Before w v)
 
--- w has P, and in row order no list with P comes before it
+-- w has P, and in row order it comes before every other list that has it
 pub record First (P : List ℕ → Type 0) (w : List ℕ) : Type 0 where
   pub allowed : P w
   pub least : (v : List ℕ) → P v → Before w v
