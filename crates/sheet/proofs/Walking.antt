@@ -36,8 +36,8 @@ pub field-in : (bytes : List ℕ) (at : ℕ) (k : Kind) (a l x : ℕ) → fieldA
 unfolding fieldAt
 field-in bytes at k a l x e =
     let i =
-        inside (ltb (length bytes) (at + 3)) (isRefused (kindOf (getD bytes at 0))) (ltb (length bytes) (at + 3 + wordAt bytes (at + 1)))
-        at (at + 3) (wordAt bytes (at + 1)) (at + 3 + wordAt bytes (at + 1)) a l x (kindOf (getD bytes at 0)) k e in
+    inside (ltb (length bytes) (at + 3)) (isRefused (kindOf (getD bytes at 0))) (ltb (length bytes) (at + 3 + wordAt bytes (at + 1)))
+    at (at + 3) (wordAt bytes (at + 1)) (at + 3 + wordAt bytes (at + 1)) a l x (kindOf (getD bytes at 0)) k e in
     let h : at + 3 + wordAt bytes (at + 1) ≤ length bytes = ltb-false _ _ (i .0) in
     (i .1, omega (arith, i .1, i .2, i .3), omega (arith, i .3))
 

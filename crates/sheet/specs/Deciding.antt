@@ -5,7 +5,6 @@ use mathlib.Core.Bool.{Bool, true, false}
 
 infixl 68 _when_
 infixr 69 _or_
-
 -- the number, given when the test holds
 pub data Rule : Type 0 where
   _when_ : ℕ → Bool → Rule

@@ -30,12 +30,12 @@ gapOf bytes row j =
 -- the graph of a sheet
 unfoldable pub graphOf : List ℕ → Sheet → Graph
 graphOf bytes sheet =
-    record
-      { rows = sheet .tally .rows
-      ; length = lengthOf sheet
-      ; deadline = λ k. rowOf sheet k .deadline .0
-      ; gap = λ k j. gapOf bytes (rowOf sheet k) j
-      }
+    record {
+      rows = sheet .tally .rows;
+      length = lengthOf sheet;
+      deadline = λ k. rowOf sheet k .deadline .0;
+      gap = λ k j. gapOf bytes (rowOf sheet k) j;
+    }
 
 -- a fixed task's three times as numbers
 abbrev pub timesOf : Task → fixed.Task

@@ -37,21 +37,21 @@ modeAt bytes start = record { boundary = rpmAt bytes start; length = ticksAt byt
 -- a row: speed, deadline, follower set, and the place where its gaps begin
 abbrev pub rowAt : List ℕ → ℕ → Row
 rowAt bytes start =
-    record
-      { speed = rpmAt bytes start
-      ; deadline = ticksAt bytes (start + 2)
-      ; followers = longAt bytes (start + 4)
-      ; gaps = start + headSize
-      }
+    record {
+      speed = rpmAt bytes start;
+      deadline = ticksAt bytes (start + 2);
+      followers = longAt bytes (start + 4);
+      gaps = start + headSize;
+    }
 
 -- a fixed task: length, period, deadline
 abbrev pub taskAt : List ℕ → ℕ → Task
 taskAt bytes start =
-    record
-      { length = ticksAt bytes start
-      ; period = ticksAt bytes (start + 2)
-      ; deadline = ticksAt bytes (start + 4)
-      }
+    record {
+      length = ticksAt bytes start;
+      period = ticksAt bytes (start + 2);
+      deadline = ticksAt bytes (start + 4);
+    }
 
 -- the field at a place: 1 for a header that is cut off, then 2, then 1 for content that is cut off
 unfoldable pub fieldAt : List ℕ → ℕ → Step

@@ -25,97 +25,97 @@ noTask = record { length = record { 0 = 0 }; period = record { 0 = 0 }; deadline
 -- a sheet of which nothing is read yet
 unfoldable pub emptySheet : Sheet
 emptySheet =
-    record
-      { label = record { start = 0; size = 0 }
-      ; tally =
-          record
-            { last = 0
-            ; modes = 0
-            ; rows = 0
-            ; tasks = 0
-            ; top = record { 0 = 0 }
-            ; fastest = record { 0 = 0 }
-            }
-      ; modes = replicate modeLimit noMode
-      ; rows = replicate rowLimit noRow
-      ; tasks = replicate taskLimit noTask
-      }
+    record {
+      label = record { start = 0; size = 0 };
+      tally =
+          record {
+            last = 0;
+            modes = 0;
+            rows = 0;
+            tasks = 0;
+            top = record { 0 = 0 };
+            fastest = record { 0 = 0 };
+          };
+      modes = replicate modeLimit noMode;
+      rows = replicate rowLimit noRow;
+      tasks = replicate taskLimit noTask;
+    }
 
 -- the sheet with its label: a part of the file
 abbrev pub withLabel : Sheet → ℕ → ℕ → Sheet
 withLabel sheet start size =
-    record
-      { label = record { start = start; size = size }
-      ; tally =
-          record
-            { last = 1
-            ; modes = sheet .tally .modes
-            ; rows = sheet .tally .rows
-            ; tasks = sheet .tally .tasks
-            ; top = sheet .tally .top
-            ; fastest = sheet .tally .fastest
-            }
-      ; modes = sheet .modes
-      ; rows = sheet .rows
-      ; tasks = sheet .tasks
-      }
+    record {
+      label = record { start = start; size = size };
+      tally =
+          record {
+            last = 1;
+            modes = sheet .tally .modes;
+            rows = sheet .tally .rows;
+            tasks = sheet .tally .tasks;
+            top = sheet .tally .top;
+            fastest = sheet .tally .fastest;
+          };
+      modes = sheet .modes;
+      rows = sheet .rows;
+      tasks = sheet .tasks;
+    }
 
 -- the sheet with one mode more
 abbrev pub withMode : Sheet → Mode → Sheet
 withMode sheet mode =
-    record
-      { label = sheet .label
-      ; tally =
-          record
-            { last = 2
-            ; modes = sheet .tally .modes + 1
-            ; rows = sheet .tally .rows
-            ; tasks = sheet .tally .tasks
-            ; top = mode .boundary
-            ; fastest = sheet .tally .fastest
-            }
-      ; modes = set (sheet .modes) (sheet .tally .modes) mode
-      ; rows = sheet .rows
-      ; tasks = sheet .tasks
-      }
+    record {
+      label = sheet .label;
+      tally =
+          record {
+            last = 2;
+            modes = sheet .tally .modes + 1;
+            rows = sheet .tally .rows;
+            tasks = sheet .tally .tasks;
+            top = mode .boundary;
+            fastest = sheet .tally .fastest;
+          };
+      modes = set (sheet .modes) (sheet .tally .modes) mode;
+      rows = sheet .rows;
+      tasks = sheet .tasks;
+    }
 
 -- the sheet with one row more
 abbrev pub withRow : Sheet → Row → Sheet
 withRow sheet row =
-    record
-      { label = sheet .label
-      ; tally =
-          record
-            { last = 3
-            ; modes = sheet .tally .modes
-            ; rows = sheet .tally .rows + 1
-            ; tasks = sheet .tally .tasks
-            ; top = sheet .tally .top
-            ; fastest = row .speed
-            }
-      ; modes = sheet .modes
-      ; rows = set (sheet .rows) (sheet .tally .rows) row
-      ; tasks = sheet .tasks
-      }
+    record {
+      label = sheet .label;
+      tally =
+          record {
+            last = 3;
+            modes = sheet .tally .modes;
+            rows = sheet .tally .rows + 1;
+            tasks = sheet .tally .tasks;
+            top = sheet .tally .top;
+            fastest = row .speed;
+          };
+      modes = sheet .modes;
+      rows = set (sheet .rows) (sheet .tally .rows) row;
+      tasks = sheet .tasks;
+    }
 
 -- the sheet with one fixed task more
 abbrev pub withTask : Sheet → Task → Sheet
 withTask sheet task =
-    record
-      { label = sheet .label
-      ; tally =
-          record
-            { last = 4
-            ; modes = sheet .tally .modes
-            ; rows = sheet .tally .rows
-            ; tasks = sheet .tally .tasks + 1
-            ; top = sheet .tally .top
-            ; fastest = sheet .tally .fastest
-            }
-      ; modes = sheet .modes
-      ; rows = sheet .rows
-      ; tasks = set (sheet .tasks) (sheet .tally .tasks) task
-      }
+    record {
+      label = sheet .label;
+      tally =
+          record {
+            last = 4;
+            modes = sheet .tally .modes;
+            rows = sheet .tally .rows;
+            tasks = sheet .tally .tasks + 1;
+            top = sheet .tally .top;
+            fastest = sheet .tally .fastest;
+          };
+      modes = sheet .modes;
+      rows = sheet .rows;
+      tasks = set (sheet .tasks) (sheet .tally .tasks) task;
+    }
 
 -- the job length of a speed: that of the first mode whose boundary is at or above it, 0 where there is none
 unfoldable pub jobLength : List Mode → Rpm → Ticks

@@ -1,7 +1,7 @@
 // The field table, and what kind of field a tag says.
 use crate::values::Sheet;
 ghost use mathlib.Core.Path.{_≡_};
-ghost use Rattle.sheet.specs.Fields.{kindOf, isRefused, lineOf};
+ghost use Rattle.sheet.specs.Fields.{kindOf, isRefused, noLine, lineOf};
 
 // A line of the field table: shortest and longest content in bytes, how many such fields a sheet may have, and whether one is required.
 pub struct Line {
@@ -23,11 +23,36 @@ pub enum Kind {
 
 // One line for each tag from 1: label, mode, row, fixed task, end.
 const FIELDS: [Line; 5] = [
-    Line { shortest: 1, longest: Sheet::LABEL, most: 1, required: true },
-    Line { shortest: 4, longest: 4, most: Sheet::MODES, required: true },
-    Line { shortest: Sheet::HEAD, longest: Sheet::HEAD + Sheet::GAP * Sheet::ROWS, most: Sheet::ROWS, required: true },
-    Line { shortest: 6, longest: 6, most: Sheet::TASKS, required: false },
-    Line { shortest: 0, longest: 0, most: 1, required: true },
+    Line {
+        shortest: 1,
+        longest: Sheet::LABEL,
+        most: 1,
+        required: true,
+    },
+    Line {
+        shortest: 4,
+        longest: 4,
+        most: Sheet::MODES,
+        required: true,
+    },
+    Line {
+        shortest: Sheet::HEAD,
+        longest: Sheet::HEAD + Sheet::GAP * Sheet::ROWS,
+        most: Sheet::ROWS,
+        required: true,
+    },
+    Line {
+        shortest: 6,
+        longest: 6,
+        most: Sheet::TASKS,
+        required: false,
+    },
+    Line {
+        shortest: 0,
+        longest: 0,
+        most: 1,
+        required: true,
+    },
 ];
 
 // The line of a tag; for a tag that has none, a line that allows nothing.
@@ -35,12 +60,23 @@ pub fn line_of(tag: usize) -> Line
     ensures { λ r. ⌜ r ≡ lineOf tag ⌝ }
 {
     if tag == 0 {
-        return Line { shortest: 0, longest: 0, most: 0, required: false };
+        return no_line();
     }
     if 5 < tag {
-        return Line { shortest: 0, longest: 0, most: 0, required: false };
+        return no_line();
     }
     FIELDS[tag - 1]
+}
+
+fn no_line() -> Line
+    ensures { λ r. ⌜ r ≡ noLine ⌝ }
+{
+    Line {
+        shortest: 0,
+        longest: 0,
+        most: 0,
+        required: false,
+    }
 }
 
 // The kind of field that a tag byte begins.

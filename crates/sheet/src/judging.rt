@@ -1,6 +1,6 @@
 // How each kind of field is judged, and what it makes of the sheet.
-use crate::Judged;
 use crate::Answer;
+use crate::Judged;
 use crate::fields::Kind;
 use crate::reader::long_at;
 use crate::reader::word_at;
@@ -39,7 +39,15 @@ pub struct Taken {
 }
 
 // A field by its kind: it starts at `at`, its content at `start`, the next field at `next`.
-pub(crate) fn judge_field(bytes: &[u8], sheet: Sheet, kind: Kind, at: usize, start: usize, size: usize, next: usize) -> Taken
+pub(crate) fn judge_field(
+    bytes: &[u8],
+    sheet: Sheet,
+    kind: Kind,
+    at: usize,
+    start: usize,
+    size: usize,
+    next: usize,
+) -> Taken
     requires { ⌜ start + size ≤ length (now bytes) ⌝ }
     ensures { λ r. ⌜ r ≡ fieldJudged (now (bytes .entry)) sheet kind at start size next ⌝ }
 {
@@ -152,7 +160,10 @@ fn refused_at(number: u8, place: usize) -> Taken
     ensures { λ r. ⌜ r ≡ refusedAt number place ⌝ }
 {
     let judged = refused(number, place);
-    Taken { over: true, judged: judged }
+    Taken {
+        over: true,
+        judged: judged,
+    }
 }
 
 // A refused sheet has no values.
@@ -160,21 +171,41 @@ pub(crate) fn refused(number: u8, place: usize) -> Judged
     ensures { λ r. ⌜ r ≡ refusal number place ⌝ }
 {
     let sheet = Sheet::empty();
-    Judged { answer: Answer::Refused { number: number, place: place }, sheet: sheet }
+    Judged {
+        answer: Answer::Refused {
+            number: number,
+            place: place,
+        },
+        sheet: sheet,
+    }
 }
 
 fn goes_on(sheet: Sheet) -> Taken
     ensures { λ r. ⌜ r ≡ goesOn sheet ⌝ }
 {
-    let judged = Judged { answer: Answer::Accepted, sheet: sheet };
-    Taken { over: false, judged: judged }
+    let so_far = Answer::Accepted;
+    let judged = Judged {
+        answer: so_far,
+        sheet: sheet,
+    };
+    Taken {
+        over: false,
+        judged: judged,
+    }
 }
 
 fn accepted_as(sheet: Sheet) -> Taken
     ensures { λ r. ⌜ r ≡ acceptedAs sheet ⌝ }
 {
-    let judged = Judged { answer: Answer::Accepted, sheet: sheet };
-    Taken { over: true, judged: judged }
+    let answer = Answer::Accepted;
+    let judged = Judged {
+        answer: answer,
+        sheet: sheet,
+    };
+    Taken {
+        over: true,
+        judged: judged,
+    }
 }
 
 // Rule 7 of a label.
@@ -253,7 +284,10 @@ fn mode_at(bytes: &[u8], start: usize) -> Mode
 {
     let boundary = Rpm(word_at(bytes, start));
     let length = Ticks(word_at(bytes, start + 2));
-    Mode { boundary: boundary, length: length }
+    Mode {
+        boundary: boundary,
+        length: length,
+    }
 }
 
 fn row_at(bytes: &[u8], start: usize) -> Row
@@ -263,7 +297,12 @@ fn row_at(bytes: &[u8], start: usize) -> Row
     let speed = Rpm(word_at(bytes, start));
     let deadline = Ticks(word_at(bytes, start + 2));
     let followers = long_at(bytes, start + 4);
-    Row { speed: speed, deadline: deadline, followers: followers, gaps: start + Sheet::HEAD }
+    Row {
+        speed: speed,
+        deadline: deadline,
+        followers: followers,
+        gaps: start + Sheet::HEAD,
+    }
 }
 
 fn task_at(bytes: &[u8], start: usize) -> Task
@@ -273,14 +312,21 @@ fn task_at(bytes: &[u8], start: usize) -> Task
     let length = Ticks(word_at(bytes, start));
     let period = Ticks(word_at(bytes, start + 2));
     let deadline = Ticks(word_at(bytes, start + 4));
-    Task { length: length, period: period, deadline: deadline }
+    Task {
+        length: length,
+        period: period,
+        deadline: deadline,
+    }
 }
 
 fn with_label(sheet: Sheet, start: usize, size: usize) -> Sheet
     ensures { λ r. ⌜ r ≡ withLabel sheet start size ⌝ }
 {
     let mut next = sheet;
-    let part = Part { start: start, size: size };
+    let part = Part {
+        start: start,
+        size: size,
+    };
     let mut tally = sheet.tally;
     tally.last = 1;
     next.label = part;

@@ -6,20 +6,18 @@ pub mod reader;
 pub mod rules;
 pub mod units;
 pub mod values;
+
 use judging::judge_field;
 use judging::refused;
-use reader::field_at;
 use reader::Step;
+use reader::field_at;
 use values::Sheet;
 ghost use mathlib.Core.Path.{_≡_};
 ghost use Rattle.sheet.specs.Judging.{judged, labelOf};
 
 pub enum Answer {
     Accepted,
-    Refused {
-        number: u8,
-        place: usize,
-    },
+    Refused { number: u8, place: usize },
 }
 
 // The answer, with the sheet's values beside it: those of an empty sheet where it is refused.
@@ -39,7 +37,12 @@ pub fn judge(bytes: &[u8]) -> Judged
             Step::Refusal { number, place } => {
                 return refused(number, place);
             }
-            Step::Field { kind, start, size, next } => {
+            Step::Field {
+                kind,
+                start,
+                size,
+                next,
+            } => {
                 let taken = judge_field(bytes, sheet, kind, at, start, size, next);
                 let stands = taken.judged;
                 if taken.over {

@@ -28,19 +28,33 @@ pub fn field_at(bytes: &[u8], at: usize) -> Step
 {
     let all = bytes.len();
     if too_short(all, at, 3) {
-        return Step::Refusal { number: 1, place: at };
+        return Step::Refusal {
+            number: 1,
+            place: at,
+        };
     }
     let tag = bytes[at];
     if refused_tag(tag) {
-        return Step::Refusal { number: 2, place: at };
+        return Step::Refusal {
+            number: 2,
+            place: at,
+        };
     }
     let size = word_at(bytes, at + 1) as usize;
     let start = at + 3;
     if too_short(all, start, size) {
-        return Step::Refusal { number: 1, place: at };
+        return Step::Refusal {
+            number: 1,
+            place: at,
+        };
     }
     let kind = kind_of(tag);
-    Step::Field { kind: kind, start: start, size: size, next: start + size }
+    Step::Field {
+        kind: kind,
+        start: start,
+        size: size,
+        next: start + size,
+    }
 }
 
 // Whether a file of `all` bytes has fewer than `more` from a place on.
@@ -60,11 +74,7 @@ pub fn too_short(all: usize, at: usize, more: usize) -> bool
 pub fn byte_at(bytes: &[u8], at: usize) -> u8
     ensures { λ r. ⌜ r ≡ getD (now (bytes .entry)) at 0 ⌝ }
 {
-    if at < bytes.len() {
-        bytes[at]
-    } else {
-        0
-    }
+    if at < bytes.len() { bytes[at] } else { 0 }
 }
 
 // The two bytes at a place as a number, high byte first, with zeros past the end.

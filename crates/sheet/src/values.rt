@@ -54,24 +54,48 @@ pub struct Sheet {
 impl Sheet {
     // The most modes, rows and fixed tasks of a sheet.
     pub const MODES: usize = 8;
+
     pub const ROWS: usize = 32;
+
     pub const TASKS: usize = 16;
     // The highest speed, and the longest time.
     pub const RPM: u16 = 20000;
+
     pub const TICKS: u16 = 65535;
     // The longest label, and the bytes of a row before its gaps and in each gap.
     pub const LABEL: usize = 32;
+
     pub const HEAD: usize = 8;
+
     pub const GAP: usize = 2;
 
     // A sheet of which nothing is read yet.
     pub fn empty() -> Sheet
         ensures { λ r. ⌜ r ≡ emptySheet ⌝ }
     {
-        let mode = Mode { boundary: Rpm(0), length: Ticks(0) };
-        let row = Row { speed: Rpm(0), deadline: Ticks(0), followers: 0, gaps: 0 };
-        let task = Task { length: Ticks(0), period: Ticks(0), deadline: Ticks(0) };
-        let tally = Tally { last: 0, modes: 0, rows: 0, tasks: 0, top: Rpm(0), fastest: Rpm(0) };
+        let mode = Mode {
+            boundary: Rpm(0),
+            length: Ticks(0),
+        };
+        let row = Row {
+            speed: Rpm(0),
+            deadline: Ticks(0),
+            followers: 0,
+            gaps: 0,
+        };
+        let task = Task {
+            length: Ticks(0),
+            period: Ticks(0),
+            deadline: Ticks(0),
+        };
+        let tally = Tally {
+            last: 0,
+            modes: 0,
+            rows: 0,
+            tasks: 0,
+            top: Rpm(0),
+            fastest: Rpm(0),
+        };
         let label = Part { start: 0, size: 0 };
         Sheet {
             label: label,
@@ -90,5 +114,10 @@ pub fn row_of(rows: [Row; Sheet::ROWS], number: usize) -> Row
     if number < Sheet::ROWS {
         return rows[number];
     }
-    Row { speed: Rpm(0), deadline: Ticks(0), followers: 0, gaps: 0 }
+    Row {
+        speed: Rpm(0),
+        deadline: Ticks(0),
+        followers: 0,
+        gaps: 0,
+    }
 }

@@ -63,9 +63,12 @@ loop-less c = omega (arith, lies (c .before .before .before .before))
 loop-again : tie.Need-loop-again Inv-loop μ-loop
 loop-again c =
     let d = c .before .before .before .before in
-    let l = d .before .before .before .before .loop .inv in
-    (l .0 - 1, lies d .2, omega (arith, lies d),
-    l .3 ∙ walk-on _ _ _ _ (omega arith) _ _ _ _ _ _ (d .before .before .before .field-at .ensures) (d .before .step2 .given .1) (c .before .before .before .judge-field .ensures) (c .before .if1 .left))
+    let l = d .before .before .before .before .loop .inv in (
+      l .0 - 1,
+      lies d .2,
+      omega (arith, lies d),
+      l .3 ∙ walk-on _ _ _ _ (omega arith) _ _ _ _ _ _ (d .before .before .before .field-at .ensures) (d .before .step2 .given .1) (c .before .before .before .judge-field .ensures) (c .before .if1 .left),
+    )
 
 pub judge-spec : {M : Type 1} → statement M
 judge-spec =

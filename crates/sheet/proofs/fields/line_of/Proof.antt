@@ -5,17 +5,23 @@ use Rattle.sheet.specs.Fields.{lineOf, fields, noLine}
 use borrow.Author.Needs.{needs}
 use lib.ListN.{List·getD-eq-default}
 use mathlib.Core.List.{_∷_}
-use mathlib.Core.Path.{_≡_, refl, sym, ap}
+use mathlib.Core.Path.{_≡_, _∙_, sym, ap}
 use native.Mathlib.Omega.{arith}
 use Rattle.sheet.proofs.fields.line_of.Tie as tie
 
+no-line-requires : tie.Need-no-line-requires
+no-line-requires c κs = search needs
+
 returns : tie.Need-returns
 unfolding lineOf fields
-returns c = rw (c .if1 .taken) refl
+returns c = c .no-line .ensures ∙ sym (ap lineOf (c .before .if1 .taken))
+
+no-line-requires-2 : tie.Need-no-line-requires-2
+no-line-requires-2 c κs = search needs
 
 returns-2 : tie.Need-returns-2
 unfolding lineOf fields
-returns-2 c = sym (List·getD-eq-default (noLine ∷ fields) noLine (c .if2 .taken))
+returns-2 c = c .no-line2 .ensures ∙ sym (List·getD-eq-default (noLine ∷ fields) noLine (c .before .if2 .taken))
 
 sub-result : tie.Need-sub-result
 sub-result c = search needs
@@ -35,4 +41,13 @@ returns-3 c =
 
 pub line-of-spec : {M : Type 1} → statement M
 line-of-spec =
-    tie.close (tie.spec returns returns-2 sub-result mul-result array-copy-out-result returns-3)
+    tie.close
+    (tie.spec
+    no-line-requires
+    returns
+    no-line-requires-2
+    returns-2
+    sub-result
+    mul-result
+    array-copy-out-result
+    returns-3)
