@@ -1,9 +1,10 @@
 -- How a chain of tests is decided, one test after the other (`search judging`), and what the number of the first broken rule says.
-use Prim.Native.Nat.{ℕ, suc, _+_, _-_, _<_, _≤_}
-use native.Mathlib.Nat.{sub-eq-zero-of-le}
+use Prim.Native.Nat.{ℕ, zero, suc, _+_, _-_, _<_, _≤_}
+use native.Mathlib.Nat.{sub-eq-zero-of-le, eq-or-lt-of-le}
 use native.Mathlib.Numerals.{add-one}
 use native.Mathlib.Omega.{arith}
 use mathlib.Core.Path.{_≡_, _∙_, refl, sym, ap}
+use mathlib.Core.Logic.{⊎-elim}
 use mathlib.Core.List.{List, [], _∷_}
 use mathlib.Core.Bool.{Bool, true, false, _&&_, true≢false}
 use lib.Dec.{T, ltb, leb, leb→le}
@@ -68,6 +69,20 @@ module _ (f : ℕ → Bool) (k e : ℕ) where
   unfolding anyFrom
   any-none h = rw (sub-eq-zero-of-le h) refl
 
+-- neither of two tests held
+pub neither : (a b : Bool) → pick a true b ≡ false → (a ≡ false) × (b ≡ false)
+unfolding pick
+neither true b e = absurd (true≢false e)
+neither false b e = (refl, e)
+
+-- where none of them passes, each fails
+pub any-false : (f : ℕ → Bool) (k n : ℕ) → anyFrom f k n ≡ false → (i : ℕ) → k ≤ i → i < k + n → f i ≡ false
+unfolding anyFrom
+any-false f k zero e i l h = absurd (omega arith)
+any-false f k (suc n) e i l h =
+    let both = neither (f k) (anyFrom f (suc k) n) e in
+    ⊎-elim (λ here. rw (← here) (both .0)) (λ later. any-false f (suc k) n (both .1) i later (omega arith)) (eq-or-lt-of-le l)
+
 -- a number with which a file is refused
 abbrev pub OfFile : ℕ → Type 0
 OfFile n = (1 ≤ n) × (n ≤ 10)
@@ -114,9 +129,3 @@ module _ (at : ℕ) where
   -- it is not 0, and r refuses with it
   pub stop : (rules : List Rule) (ok r : Taken) (n : ℕ) → n ≡ firstBroken rules → (n ≡ 0 → ⊥) → r ≡ refusedAt n at → r ≡ checked at rules ok
   stop rules ok r n e z h = h ∙ ap (λ k. refusedAt k at) e ∙ sym (decided-no rules ok (λ q. z (e ∙ q)))
-
--- neither of two tests held
-pub neither : (a b : Bool) → pick a true b ≡ false → (a ≡ false) × (b ≡ false)
-unfolding pick
-neither true b e = absurd (true≢false e)
-neither false b e = (refl, e)

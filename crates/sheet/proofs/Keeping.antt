@@ -4,7 +4,7 @@ use native.Mathlib.Omega.{arith}
 use mathlib.Core.Path.{_≡_, refl}
 use mathlib.Core.List.{List, [], _∷_}
 use mathlib.Core.Bool.{Bool, true, false}
-use lib.Dec.{T, ltb}
+use lib.Dec.{T}
 use lib.ListN.{length}
 use borrow.Author.Tests.{ltb-false}
 use Rattle.sheet.specs.Deciding.{Rule, _when_, pick}

@@ -3,3 +3,7 @@ pub mod Numbered
 pub mod Walking
 pub mod Keeping
 pub mod LabelInside
+pub mod Refusals
+pub mod Growing
+pub mod KeptRules
+pub mod Accepted

@@ -15,7 +15,6 @@ use Rattle.sheet.specs.declared.fields.Kind.{Kind}
 use Rattle.sheet.specs.declared.reader.Step.{Step}
 use Rattle.sheet.specs.declared.reader.Step.the-variants.{Field, Refusal}
 use Rattle.sheet.specs.declared.values.Sheet.{Sheet}
-use Rattle.sheet.specs.declared.Judged.{Judged}
 use Rattle.sheet.specs.declared.judging.Taken.{Taken}
 use Rattle.sheet.proofs.Deciding.{OfFile}
 
