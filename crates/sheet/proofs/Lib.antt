@@ -1,3 +1,9 @@
 pub mod Deciding
 pub mod Numbered
 pub mod Walking
+pub mod Keeping
+pub mod LabelInside
+pub mod Refusals
+pub mod Growing
+pub mod KeptRules
+pub mod Accepted
