@@ -1,5 +1,5 @@
 -- Every accepted sheet is proper. What holds of the sheet so far is kept by each field, and the end field's rules add what is said of the whole.
-use Prim.Native.Nat.{ℕ, _+_, _-_, _^_, _≤_, _<_}
+use Prim.Native.Nat.{ℕ, _+_, _-_, _≤_, _<_}
 use native.Mathlib.Omega.{arith}
 use native.Mathlib.Nat.{eq-zero-or-pos}
 use mathlib.Core.Path.{_≡_, refl}
@@ -7,76 +7,23 @@ use mathlib.Core.Logic.{⊎-elim}
 use mathlib.Core.Bool.{false}
 use mathlib.Core.List.{List}
 use lib.ListN.{length}
-use borrow.Author.Tests.{leb-false, ltb-false}
-use Rattle.sets.proofs.Bits.{bit-within}
-use Rattle.walks.specs.Demand.{longestTime}
 use Rattle.sheet.specs.Fields.{lineOf, fields}
 use Rattle.sheet.specs.Limits.{modeLimit, rowLimit, taskLimit}
-use Rattle.sheet.specs.Proper.{Bytes, Positive, ProperMode, ProperRow, ProperTask, Proper}
-use Rattle.sheet.specs.Reading.{wordAt, longAt, ticksAt, modeAt, rowAt, taskAt}
-use Rattle.sheet.specs.Rules.{noTicks, wrongRow, unknownFollower, modeRules, rowRules, rowGapRules, taskRules}
+use Rattle.sheet.specs.Proper.{Bytes, ProperMode, ProperRow, ProperTask, Proper}
+use Rattle.sheet.specs.Rules.{unknownFollower}
 use Rattle.sheet.specs.Values.{emptySheet, noMode, noRow, noTask}
 use Rattle.sheet.specs.Judging.{refusal, judged}
 use Rattle.sheet.specs.declared.Answer.the-variants.{Accepted}
 use Rattle.sheet.specs.declared.Judged.{Judged}
-use Rattle.sheet.specs.declared.values.Mode.{Mode}
-use Rattle.sheet.specs.declared.values.Row.{Row}
-use Rattle.sheet.specs.declared.values.Tally.{Tally}
 use Rattle.sheet.specs.declared.values.Sheet.{Sheet}
-use Rattle.sheet.proofs.Deciding.{Kept}
-use Rattle.sheet.proofs.Growing.{Held, Rising, held-more, rising-more}
+use Rattle.sheet.proofs.Growing.{Held, Rising, held-none, rising-none, held-more, rising-more}
 use Rattle.sheet.proofs.Keeping.{Keeps, judged-keeps}
-use Rattle.sheet.proofs.KeptRules.{order-kept, rpm-kept, ticks-kept, gaps-kept, followers-kept}
-use Rattle.sheet.proofs.Numbered.{common-says, row-length}
+use Rattle.sheet.proofs.KeptRules.{order-kept, followers-kept}
+use Rattle.sheet.proofs.Numbered.{common-says}
 use Rattle.sheet.proofs.Walking.{field-in}
+use Rattle.sheet.proofs.ProperFields.{mode-proper, row-proper, task-proper, mode-rises, row-rises}
 
--- ---- numbers of a file of bytes
-
-module _ (bytes : List ℕ) (fit : Bytes bytes) where
-  word-most : (at : ℕ) → wordAt bytes at ≤ longestTime
-  word-most at = omega (arith, fit at, fit (at + 1))
-
-  long-narrow : (at : ℕ) → longAt bytes at < 2 ^ 32
-  long-narrow at = omega (arith, word-most at, word-most (at + 2))
-
-  ticks-positive : (at : ℕ) → noTicks (ticksAt bytes at) ≡ false → Positive (ticksAt bytes at)
-  ticks-positive at e = (ticks-kept (ticksAt bytes at) e, word-most at)
-
-  -- ---- one field whose rules are kept
-
-  mode-proper : (tally : Tally) (start : ℕ) → Kept (modeRules tally (modeAt bytes start)) → ProperMode (modeAt bytes start)
-  unfolding modeRules
-  mode-proper tally start k = record { boundary = rpm-kept _ (k .0); length = ticks-positive _ (k .1 .0) }
-
-  row-proper : (tally : Tally) (start size : ℕ) → start + size ≤ length bytes → wrongRow bytes start size ≡ false → Kept (rowGapRules bytes tally (rowAt bytes start))
-      → ProperRow bytes rowLimit (rowAt bytes start)
-  unfolding rowGapRules rowRules
-  row-proper tally start size inside right k =
-      record {
-        speed = rpm-kept _ (k .0);
-        deadline = ticks-positive _ (k .1 .0);
-        gaps-inside = omega (arith, row-length bytes start size right);
-        gap-least = λ i h. gaps-kept bytes _ _ _ (k .1 .1 .1 .1 .1 .0) i h;
-        gap-most = λ i h. word-most _;
-        followers-exist = λ j set. bit-within rowLimit _ j (long-narrow (start + 4)) set;
-      }
-
-  task-proper : (start : ℕ) → Kept (taskRules (taskAt bytes start)) → ProperTask (taskAt bytes start)
-  unfolding taskRules
-  task-proper start k =
-      record { length = ticks-positive _ (k .0); period = ticks-positive _ (k .1 .0); deadline = ticks-positive _ (k .1 .1 .0) }
-
--- a mode is above those before it, a row is above those before it and not above the last mode
-mode-rises : (tally : Tally) (mode : Mode) → Kept (modeRules tally mode) → tally .top .0 < mode .boundary .0
-unfolding modeRules
-mode-rises tally mode k = leb-false _ _ (k .1 .1 .0)
-
-row-rises : (bytes : List ℕ) (tally : Tally) (row : Row) → Kept (rowGapRules bytes tally row) → (tally .fastest .0 < row .speed .0) × (row .speed .0 ≤ tally .top .0)
-unfolding rowGapRules rowRules
-row-rises bytes tally row k = (leb-false _ _ (k .1 .1 .1 .0), ltb-false _ _ (k .1 .1 .1 .1 .0))
-
--- ---- the sheet so far
-
+-- the sheet so far
 record SoFar (bytes : List ℕ) (sheet : Sheet) : Type 0 where
   label-inside : sheet .label .start + sheet .label .size ≤ length bytes
   modes : Held noMode modeLimit ProperMode (sheet .modes) (sheet .tally .modes)
@@ -123,11 +70,11 @@ module _ (bytes : List ℕ) (fit : Bytes bytes) where
   nothing-read =
       record {
         label-inside = omega arith;
-        modes = record { room = refl; most = omega arith; each = λ k h. absurd (omega arith) };
-        rows = record { room = refl; most = omega arith; each = λ k h. absurd (omega arith) };
-        tasks = record { room = refl; most = omega arith; each = λ k h. absurd (omega arith) };
-        boundaries = record { rise = λ k h. absurd (omega arith); most = λ k h. absurd (omega arith); ends = λ k e. absurd (omega arith); starts = λ e. refl };
-        speeds = record { rise = λ k h. absurd (omega arith); most = λ k h. absurd (omega arith); ends = λ k e. absurd (omega arith); starts = λ e. refl };
+        modes = held-none noMode modeLimit ProperMode;
+        rows = held-none noRow rowLimit (ProperRow bytes rowLimit);
+        tasks = held-none noTask taskLimit ProperTask;
+        boundaries = rising-none noMode _ _;
+        speeds = rising-none noRow _ _;
         speeds-within = omega arith;
         rows-some = λ h. absurd (omega arith);
       }

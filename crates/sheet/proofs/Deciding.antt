@@ -83,20 +83,24 @@ any-false f k (suc n) e i l h =
     let both = neither (f k) (anyFrom f (suc k) n) e in
     ⊎-elim (λ here. rw (← here) (both .0)) (λ later. any-false f (suc k) n (both .1) i later (omega arith)) (eq-or-lt-of-le l)
 
+-- the last rule that a file can break
+abbrev pub lastRule : ℕ
+lastRule = 10
+
 -- a number with which a file is refused
 abbrev pub OfFile : ℕ → Type 0
-OfFile n = (1 ≤ n) × (n ≤ 10)
+OfFile n = (1 ≤ n) × (n ≤ lastRule)
 
 -- every rule has such a number: a test that antt computes on a written list
 abbrev pub numbered : List Rule → Bool
 numbered [] = true
-numbered (n when b ∷ rules) = leb 1 n && leb n 10 && numbered rules
+numbered (n when b ∷ rules) = leb 1 n && leb n lastRule && numbered rules
 
 pub first-numbered : (n : ℕ) (b : Bool) (rules : List Rule) → T (numbered (n when b ∷ rules)) → OfFile n × T (numbered rules)
 first-numbered n b rules t =
-    let all = and-yes (leb 1 n && leb n 10) (numbered rules) t in
-    let own = and-yes (leb 1 n) (leb n 10) (all .0) in
-    ((leb→le 1 n (own .0), leb→le n 10 (own .1)), all .1)
+    let all = and-yes (leb 1 n && leb n lastRule) (numbered rules) t in
+    let own = and-yes (leb 1 n) (leb n lastRule) (all .0) in
+    ((leb→le 1 n (own .0), leb→le n lastRule (own .1)), all .1)
 
 -- no rule of the list is broken
 abbrev pub Kept : List Rule → Type 0

@@ -1,12 +1,13 @@
 -- An array that is filled from the front: what holds of each value that counts, and of each with the next, holds with one value more.
 use Prim.Native.Nat.{ℕ, _+_, _≤_, _<_}
 use native.Mathlib.Omega.{arith}
-use native.Mathlib.Nat.{eq-or-lt-of-le}
+use native.Mathlib.Nat.{eq-or-lt-of-le, le-refl}
 use mathlib.Core.Path.{_≡_}
 use mathlib.Core.Logic.{⊎-elim}
 use mathlib.Core.List.{List}
-use lib.ListN.{length, getD, set, length-set}
+use lib.ListN.{length, getD, set, replicate, length-set, length-replicate, List·getD-eq-default}
 use lib.Seq.{getD-set-same, getD-set-other}
+use Rattle.walks.proofs.Tests.{lt-or}
 
 module _ {A : Type 0} (none : A) where
   -- each of the first `count` values has F
@@ -25,6 +26,23 @@ module _ {A : Type 0} (none : A) where
     pub most : Each (λ a. f a ≤ last) values count
     pub ends : (k : ℕ) → k + 1 ≡ count → f (getD values k none) ≡ last
     pub starts : count ≡ 0 → last ≡ 0
+
+  pub held-none : (limit : ℕ) (F : A → Type 0) → Held limit F (replicate limit none) 0
+  held-none limit F = record { room = length-replicate limit none; most = omega arith; each = λ k h. absurd (omega arith) }
+
+  pub rising-none : (f : A → ℕ) (values : List A) → Rising f values 0 0
+  rising-none f values =
+      record {
+        rise = λ k h. absurd (omega arith);
+        most = λ k h. absurd (omega arith);
+        ends = λ k e. absurd (omega arith);
+        starts = λ e. e;
+      }
+
+  -- where what stands past the end has not F, all that counts stands in the array
+  pub each-within : (F : A → Type 0) (values : List A) (count : ℕ) → (F none → ⊥) → Each F values count → count ≤ length values
+  each-within F values count never each =
+      ⊎-elim (λ l. absurd (never (rw (List·getD-eq-default values none (le-refl (length values))) at (each (length values) l)))) (λ l. l) (lt-or (length values) count)
 
   module _ (values : List A) (count : ℕ) (a : A) (free : count < length values) where
     -- the values before stay, and the new one stands after them

@@ -11,7 +11,7 @@ use Rattle.sheet.specs.declared.Judged.{Judged}
 use Rattle.sheet.proofs.Deciding.{OfFile}
 use Rattle.sheet.proofs.Keeping.{Keeps, judged-keeps}
 
--- an answer that refuses has such a number and place, and is nothing but the refusal
+-- what an answer has that refuses with a number and a place
 abbrev Rightly : List ℕ → Judged → Type 0
 Rightly bytes answer = (n place : ℕ) → answer .answer ≡ Refused n place → OfFile n × (place ≤ length bytes) × (answer .sheet ≡ emptySheet)
 
@@ -36,7 +36,7 @@ module _ (bytes : List ℕ) (n place : ℕ) (refused : judged bytes .answer ≡ 
   rightly : OfFile n × (place ≤ length bytes) × (judged bytes .sheet ≡ emptySheet)
   rightly = judged-keeps bytes (λ _ _. Unit {0}) (Rightly bytes) (refused-keeps bytes) n place refused
 
-  pub refused-number : (1 ≤ n) × (n ≤ 10)
+  pub refused-number : OfFile n
   refused-number = rightly .0
 
   pub refused-place : place ≤ length bytes
