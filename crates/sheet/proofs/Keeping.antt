@@ -1,4 +1,4 @@
--- What each field keeps holds of the whole file. A law about every judged file says what holds of the sheet so far at a place, and what then holds of the answer; it is proved of one field of each kind.
+-- What each field keeps holds of the whole file: a law about every judged file says what holds of the sheet so far and of the answer, and is proved of one field of each kind.
 use Prim.Native.Nat.{ℕ, zero, suc, _+_, _≤_, _<_}
 use native.Mathlib.Omega.{arith}
 use mathlib.Core.Path.{_≡_, refl}
