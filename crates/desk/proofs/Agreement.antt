@@ -33,7 +33,7 @@ came-to-answer sheet-case.Accepted false true R A never b = absurd (never 12 0 b
 came-to-answer sheet-case.Accepted false false R A never b = (b, refl, refl)
 
 -- and where the sheet is accepted, the number in range and the room enough, it does come to it
-comes-to-answer : (answer : Answer) (outOfRange tooFew : Bool) (R : ℕ → ℕ → Type 0) (A : Type 0)
+pub comes-to-answer : (answer : Answer) (outOfRange tooFew : Bool) (R : ℕ → ℕ → Type 0) (A : Type 0)
     → answer ≡ sheet-case.Accepted → outOfRange ≡ false → tooFew ≡ false → Begins answer outOfRange tooFew R A → A
 comes-to-answer answer o f R A accepted range room b =
     subst (λ (x : Answer). Begins x false false R A) accepted
@@ -64,7 +64,7 @@ told-none answer time refused gives = go (eqb time noTime) refl gives
     go true e p = eqb-true time noTime e
     go false e p = absurd (time-not-refused time 14 0 (sym p ∙ refused))
 
-told-refused : (answer : shortest.ShortestAnswer) (time : ℕ) → time ≡ noTime → ShortestGives answer time → answer ≡ shortest-case.Refused 14 0
+pub told-refused : (answer : shortest.ShortestAnswer) (time : ℕ) → time ≡ noTime → ShortestGives answer time → answer ≡ shortest-case.Refused 14 0
 told-refused answer time none gives = subst (λ (test : Bool). Either test (answer ≡ shortest-case.Refused 14 0) (answer ≡ shortest-case.Found time)) (eq-eqb time noTime none) gives
 
 -- an amount that `demand` found is the demand of an accepted sheet, at an interval that may be asked about
