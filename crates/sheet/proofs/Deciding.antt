@@ -1,12 +1,14 @@
 -- How a chain of tests is decided, one test after the other (`search judging`), and what the number of the first broken rule says.
 use Prim.Native.Nat.{ℕ, zero, suc, _+_, _-_, _<_, _≤_}
-use native.Mathlib.Nat.{sub-eq-zero-of-le, suc-ne-zero}
+use native.Mathlib.Nat.{sub-eq-zero-of-le, eq-or-lt-of-le}
 use native.Mathlib.Numerals.{add-one}
 use native.Mathlib.Omega.{arith}
 use mathlib.Core.Path.{_≡_, _∙_, refl, sym, ap}
+use mathlib.Core.Logic.{⊎-elim}
 use mathlib.Core.List.{List, [], _∷_}
-use mathlib.Core.Bool.{Bool, true, false, true≢false}
-use lib.Dec.{T, ltb}
+use mathlib.Core.Bool.{Bool, true, false, _&&_, true≢false}
+use lib.Dec.{T, ltb, leb, leb→le}
+use mir.Facts.{and-yes}
 use borrow.Author.Tests.{lt-ltb, le-ltb, le-leb, lt-leb, eq-eqb, ne-eqb, ltb-true, ltb-false}
 use Rattle.sheet.specs.Deciding.{Rule, _when_, pick, firstBroken, anyFrom}
 use Rattle.sheet.specs.Judging.{checked, refusedAt}
@@ -67,11 +69,38 @@ module _ (f : ℕ → Bool) (k e : ℕ) where
   unfolding anyFrom
   any-none h = rw (sub-eq-zero-of-le h) refl
 
--- every rule's number is above 0: a test that antt computes on a written list
+-- neither of two tests held
+pub neither : (a b : Bool) → pick a true b ≡ false → (a ≡ false) × (b ≡ false)
+unfolding pick
+neither true b e = absurd (true≢false e)
+neither false b e = (refl, e)
+
+-- where none of them passes, each fails
+pub any-false : (f : ℕ → Bool) (k n : ℕ) → anyFrom f k n ≡ false → (i : ℕ) → k ≤ i → i < k + n → f i ≡ false
+unfolding anyFrom
+any-false f k zero e i l h = absurd (omega arith)
+any-false f k (suc n) e i l h =
+    let both = neither (f k) (anyFrom f (suc k) n) e in
+    ⊎-elim (λ here. rw (← here) (both .0)) (λ later. any-false f (suc k) n (both .1) i later (omega arith)) (eq-or-lt-of-le l)
+
+-- the last rule that a file can break
+abbrev pub lastRule : ℕ
+lastRule = 10
+
+-- a number with which a file is refused
+abbrev pub OfFile : ℕ → Type 0
+OfFile n = (1 ≤ n) × (n ≤ lastRule)
+
+-- every rule has such a number: a test that antt computes on a written list
 abbrev pub numbered : List Rule → Bool
 numbered [] = true
-numbered (zero when b ∷ rules) = false
-numbered (suc n when b ∷ rules) = numbered rules
+numbered (n when b ∷ rules) = leb 1 n && leb n lastRule && numbered rules
+
+pub first-numbered : (n : ℕ) (b : Bool) (rules : List Rule) → T (numbered (n when b ∷ rules)) → OfFile n × T (numbered rules)
+first-numbered n b rules t =
+    let all = and-yes (leb 1 n && leb n lastRule) (numbered rules) t in
+    let own = and-yes (leb 1 n) (leb n lastRule) (all .0) in
+    ((leb→le 1 n (own .0), leb→le n lastRule (own .1)), all .1)
 
 -- no rule of the list is broken
 abbrev pub Kept : List Rule → Type 0
@@ -81,17 +110,15 @@ Kept (n when b ∷ rules) = (b ≡ false) × Kept rules
 pub all-kept : (rules : List Rule) → T (numbered rules) → firstBroken rules ≡ 0 → Kept rules
 unfolding pick firstBroken
 all-kept [] t e = tt
-all-kept (zero when b ∷ rules) t e = absurd t
-all-kept (suc n when true ∷ rules) t e = absurd (suc-ne-zero n e)
-all-kept (suc n when false ∷ rules) t e = (refl, all-kept rules t e)
+all-kept (n when true ∷ rules) t e = absurd (omega (arith, e, first-numbered n true rules t))
+all-kept (n when false ∷ rules) t e = (refl, all-kept rules (first-numbered n false rules t .1) e)
 
 module _ (at : ℕ) where
   decided-ok : (rules : List Rule) (ok : Taken) → T (numbered rules) → firstBroken rules ≡ 0 → checked at rules ok ≡ ok
   unfolding pick checked firstBroken
   decided-ok [] ok t e = refl
-  decided-ok (zero when b ∷ rules) ok t e = absurd t
-  decided-ok (suc n when true ∷ rules) ok t e = absurd (suc-ne-zero n e)
-  decided-ok (suc n when false ∷ rules) ok t e = decided-ok rules ok t e
+  decided-ok (n when true ∷ rules) ok t e = absurd (omega (arith, e, first-numbered n true rules t))
+  decided-ok (n when false ∷ rules) ok t e = decided-ok rules ok (first-numbered n false rules t .1) e
 
   decided-no : (rules : List Rule) (ok : Taken) → (firstBroken rules ≡ 0 → ⊥) → checked at rules ok ≡ refusedAt (firstBroken rules) at
   unfolding pick checked firstBroken
@@ -106,9 +133,3 @@ module _ (at : ℕ) where
   -- it is not 0, and r refuses with it
   pub stop : (rules : List Rule) (ok r : Taken) (n : ℕ) → n ≡ firstBroken rules → (n ≡ 0 → ⊥) → r ≡ refusedAt n at → r ≡ checked at rules ok
   stop rules ok r n e z h = h ∙ ap (λ k. refusedAt k at) e ∙ sym (decided-no rules ok (λ q. z (e ∙ q)))
-
--- neither of two tests held
-pub neither : (a b : Bool) → pick a true b ≡ false → (a ≡ false) × (b ≡ false)
-unfolding pick
-neither true b e = absurd (true≢false e)
-neither false b e = (refl, e)

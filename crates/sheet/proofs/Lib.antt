@@ -1,3 +1,13 @@
 pub mod Deciding
 pub mod Numbered
 pub mod Walking
+pub mod KeptRules
+pub mod Keeping
+pub mod LabelInside
+pub mod Refusals
+pub mod Growing
+pub mod ProperFields
+pub mod Accepted
+pub mod ProperGraph
+pub mod ProperTasks
+pub mod Determined

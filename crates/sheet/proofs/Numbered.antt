@@ -8,24 +8,27 @@ use borrow.Author.Tests.{ltb-false, leb-false, eqb-true, not-false}
 use Rattle.sheet.specs.Deciding.{firstBroken}
 use Rattle.sheet.specs.Fields.{lineOf, fields}
 use Rattle.sheet.specs.Reading.{longAt}
-use Rattle.sheet.specs.Rules.{wrongLength, wrongRow, unlikeSet, full, followerCount, commonRules, modeRules, rowRules, rowGapRules, taskRules}
+use Rattle.sheet.specs.Rules.{outOfOrder, wrongLength, wrongRow, unlikeSet, full, followerCount, commonRules, modeRules, rowRules, rowGapRules, taskRules}
 use Rattle.sheet.specs.declared.values.Mode.{Mode}
 use Rattle.sheet.specs.declared.values.Row.{Row}
 use Rattle.sheet.specs.declared.values.Task.{Task}
 use Rattle.sheet.specs.declared.values.Tally.{Tally}
-use Rattle.sheet.proofs.Deciding.{numbered, all-kept, neither}
+use Rattle.sheet.proofs.Deciding.{Kept, numbered, all-kept, neither}
 
 module _ (tag last count : ℕ) (wrong : Bool) where
   pub common-numbered : T (numbered (commonRules tag last wrong count))
   unfolding commonRules
   common-numbered = tt
 
-  -- the length is right, and there is room for one more
-  pub common-kept : firstBroken (commonRules tag last wrong count) ≡ 0 → (wrong ≡ false) × (count < lineOf tag .most)
+  -- the field is in order, its length is right, and there is room for one more
+  pub common-says : Kept (commonRules tag last wrong count) → (outOfOrder last tag ≡ false) × (wrong ≡ false) × (count < lineOf tag .most)
   unfolding commonRules full
+  common-says k = (k .0, k .1 .0, leb-false _ _ (k .1 .1 .0))
+
+  pub common-kept : firstBroken (commonRules tag last wrong count) ≡ 0 → (wrong ≡ false) × (count < lineOf tag .most)
   common-kept e =
-      let k = all-kept (commonRules tag last wrong count) tt e in
-      (k .1 .0, leb-false _ _ (k .1 .1 .0))
+      let says = common-says (all-kept (commonRules tag last wrong count) common-numbered e) in
+      (says .1, says .2)
 
 pub mode-numbered : (tally : Tally) (mode : Mode) → T (numbered (modeRules tally mode))
 unfolding modeRules

@@ -15,8 +15,8 @@ use Rattle.sheet.specs.declared.fields.Kind.{Kind}
 use Rattle.sheet.specs.declared.reader.Step.{Step}
 use Rattle.sheet.specs.declared.reader.Step.the-variants.{Field, Refusal}
 use Rattle.sheet.specs.declared.values.Sheet.{Sheet}
-use Rattle.sheet.specs.declared.Judged.{Judged}
 use Rattle.sheet.specs.declared.judging.Taken.{Taken}
+use Rattle.sheet.proofs.Deciding.{OfFile}
 
 apart : (n p a l x : ℕ) (k : Kind) → Refusal n p ≡ Field k a l x → ⊥
 apart n p a l x k e = let z : _≡_ {A = ℕ} 0 1 = cc in omega arith
@@ -29,6 +29,21 @@ inside true b₂ b₃ at a l x a′ l′ x′ k k′ e = absurd (apart _ _ _ _ _
 inside false true b₃ at a l x a′ l′ x′ k k′ e = absurd (apart _ _ _ _ _ _ e)
 inside false false true at a l x a′ l′ x′ k k′ e = absurd (apart _ _ _ _ _ _ e)
 inside false false false at a l x a′ l′ x′ k k′ e = (refl, cc, cc, cc)
+
+-- a place where no field can be read is refused by rule 1 or 2
+refused-by : (b₁ b₂ b₃ : Bool) (at a l x n p : ℕ) (k : Kind)
+    → pick b₁ (Refusal 1 at) (pick b₂ (Refusal 2 at) (pick b₃ (Refusal 1 at) (Field k a l x))) ≡ Refusal n p → OfFile n × (p ≡ at)
+unfolding pick
+refused-by true b₂ b₃ at a l x n p k e = let u : 1 ≡ n = cc in let w : at ≡ p = cc in omega arith
+refused-by false true b₃ at a l x n p k e = let u : 2 ≡ n = cc in let w : at ≡ p = cc in omega arith
+refused-by false false true at a l x n p k e = let u : 1 ≡ n = cc in let w : at ≡ p = cc in omega arith
+refused-by false false false at a l x n p k e = absurd (apart _ _ _ _ _ _ (sym e))
+
+pub refused-in : (bytes : List ℕ) (at n p : ℕ) → fieldAt bytes at ≡ Refusal n p → OfFile n × (p ≡ at)
+unfolding fieldAt
+refused-in bytes at n p e =
+    refused-by (ltb (length bytes) (at + 3)) (isRefused (kindOf (getD bytes at 0))) (ltb (length bytes) (at + 3 + wordAt bytes (at + 1)))
+    at (at + 3) (wordAt bytes (at + 1)) (at + 3 + wordAt bytes (at + 1)) n p (kindOf (getD bytes at 0)) e
 
 -- a field's content lies in the file, behind its header and right before the next field
 pub field-in : (bytes : List ℕ) (at : ℕ) (k : Kind) (a l x : ℕ) → fieldAt bytes at ≡ Field k a l x

@@ -14,13 +14,15 @@ ghost use Rattle.sheet.specs.Rules.{outOfOrder, wrongLength, full, badBy
 pub fn common_number(tag: usize, last: usize, wrong: bool, count: usize) -> u8
     ensures { λ r. ⌜ r ≡ firstBroken (commonRules tag last wrong count) ⌝ }
 {
-    if out_of_order(last, tag) {
+    let misplaced = out_of_order(last, tag);
+    let full = full_of(tag, count);
+    if misplaced {
         return 3;
     }
     if wrong {
         return 5;
     }
-    if full_of(tag, count) {
+    if full {
         return 6;
     }
     0

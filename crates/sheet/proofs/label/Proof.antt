@@ -1,32 +1,34 @@
+-- `label` meets its contract: the judged label lies in the file, so that part of the bytes can be handed out.
+use Prim.Native.Nat.{_+_, _≤_}
+use native.Mathlib.Omega.{arith}
+use native.Mathlib.Nat.{add-sub-cancel-left}
+use denote.Ref.{now}
+use lib.ListN.{length}
+use borrow.Author.Needs.{needs}
+use Rattle.sheet.proofs.LabelInside.{label-inside}
 use Rattle.sheet.proofs.label.Statement.{statement}
 use Rattle.sheet.proofs.label.Tie as tie
-use Rattle.sheet.proofs.label.Reads as reads
-use Rattle.sheet.proofs.label.Lts as lts
-use Rattle.sheet.proofs.judge.Reads as judge-reads
 
--- src/lib.rt:60:9
+within : (c : tie.After-judge) → c .judge .result .sheet .label .start + c .judge .result .sheet .label .size ≤ length (now (c .before .before .args .bytes))
+within c = rw (c .judge .ensures) (label-inside (now (c .before .before .args .bytes)))
+
 judge-requires : tie.Need-judge-requires
-judge-requires c κs = ?
+judge-requires c κs = search needs
 
--- src/lib.rt:64:14
 add-to : tie.Need-add-to
-add-to c = ?
+add-to c = omega (arith, within (c .before .before .before))
 
--- src/lib.rt:65:5
 sub-result : tie.Need-sub-result
-sub-result c = ?
+sub-result c = search needs
 
--- src/lib.rt:65:5
 part-result-start : tie.Need-part-result-start
-part-result-start c = ?
+part-result-start c = search needs
 
--- src/lib.rt:65:5
 part-result-end : tie.Need-part-result-end
-part-result-end c = ?
+part-result-end c = omega (arith, within (c .before .before .before))
 
--- src/lib.rt:57:1
 returns : tie.Need-returns
-returns c = ?
+returns c = rw (add-sub-cancel-left, ← c .before .before .before .before .judge .ensures)
 
 pub label-spec : {M : Type 1} → statement M
 label-spec =

@@ -10,6 +10,9 @@ use Rattle.sheet.proofs.rules.common_number.Tie as tie
 out-of-order-requires : tie.Need-out-of-order-requires
 out-of-order-requires c κs = search needs
 
+full-of-requires : tie.Need-full-of-requires
+full-of-requires c κs = search needs
+
 returns : tie.Need-returns
 unfolding commonRules firstBroken
 returns c = search judging
@@ -17,9 +20,6 @@ returns c = search judging
 returns-2 : tie.Need-returns-2
 unfolding commonRules firstBroken
 returns-2 c = search judging
-
-full-of-requires : tie.Need-full-of-requires
-full-of-requires c κs = search needs
 
 returns-3 : tie.Need-returns-3
 unfolding commonRules firstBroken
@@ -32,4 +32,4 @@ returns-4 c = search judging
 pub common-number-spec : {M : Type 1} → statement M
 common-number-spec =
     tie.close
-    (tie.spec out-of-order-requires returns returns-2 full-of-requires returns-3 returns-4)
+    (tie.spec out-of-order-requires full-of-requires returns returns-2 returns-3 returns-4)

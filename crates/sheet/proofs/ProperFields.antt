@@ -1,0 +1,62 @@
+-- A field whose rules are kept has proper values: its numbers are in range, its gaps stand in the file, and it stands above what came before.
+use Prim.Native.Nat.{ℕ, _+_, _^_, _≤_, _<_}
+use native.Mathlib.Omega.{arith}
+use mathlib.Core.Path.{_≡_}
+use mathlib.Core.Bool.{false}
+use mathlib.Core.List.{List}
+use lib.ListN.{length}
+use borrow.Author.Tests.{leb-false, ltb-false}
+use Rattle.sets.proofs.Bits.{bit-within}
+use Rattle.walks.specs.Demand.{longestTime}
+use Rattle.sheet.specs.Limits.{rowLimit}
+use Rattle.sheet.specs.Proper.{Bytes, Positive, ProperMode, ProperRow, ProperTask}
+use Rattle.sheet.specs.Reading.{wordAt, longAt, ticksAt, modeAt, rowAt, taskAt}
+use Rattle.sheet.specs.Rules.{noTicks, wrongRow, modeRules, rowRules, rowGapRules, taskRules}
+use Rattle.sheet.specs.declared.values.Mode.{Mode}
+use Rattle.sheet.specs.declared.values.Row.{Row}
+use Rattle.sheet.specs.declared.values.Tally.{Tally}
+use Rattle.sheet.proofs.Deciding.{Kept}
+use Rattle.sheet.proofs.KeptRules.{rpm-kept, ticks-kept, gaps-kept}
+use Rattle.sheet.proofs.Numbered.{row-length}
+
+module _ (bytes : List ℕ) (fit : Bytes bytes) where
+  word-most : (at : ℕ) → wordAt bytes at ≤ longestTime
+  word-most at = omega (arith, fit at, fit (at + 1))
+
+  -- a set of the file has no row from `rowLimit` on
+  long-narrow : (at : ℕ) → longAt bytes at < 2 ^ 32
+  long-narrow at = omega (arith, word-most at, word-most (at + 2))
+
+  ticks-positive : (at : ℕ) → noTicks (ticksAt bytes at) ≡ false → Positive (ticksAt bytes at)
+  ticks-positive at e = (ticks-kept (ticksAt bytes at) e, word-most at)
+
+  pub mode-proper : (tally : Tally) (start : ℕ) → Kept (modeRules tally (modeAt bytes start)) → ProperMode (modeAt bytes start)
+  unfolding modeRules
+  mode-proper tally start k = record { boundary = rpm-kept _ (k .0); length = ticks-positive _ (k .1 .0) }
+
+  pub row-proper : (tally : Tally) (start size : ℕ) → start + size ≤ length bytes → wrongRow bytes start size ≡ false → Kept (rowGapRules bytes tally (rowAt bytes start))
+      → ProperRow bytes rowLimit (rowAt bytes start)
+  unfolding rowGapRules rowRules
+  row-proper tally start size inside right k =
+      record {
+        speed = rpm-kept _ (k .0);
+        deadline = ticks-positive _ (k .1 .0);
+        gaps-inside = omega (arith, row-length bytes start size right);
+        gap-least = λ i h. gaps-kept bytes _ _ _ (k .1 .1 .1 .1 .1 .0) i h;
+        gap-most = λ i h. word-most _;
+        followers-exist = λ j set. bit-within rowLimit _ j (long-narrow (start + 4)) set;
+      }
+
+  pub task-proper : (start : ℕ) → Kept (taskRules (taskAt bytes start)) → ProperTask (taskAt bytes start)
+  unfolding taskRules
+  task-proper start k =
+      record { length = ticks-positive _ (k .0); period = ticks-positive _ (k .1 .0); deadline = ticks-positive _ (k .1 .1 .0) }
+
+-- a mode is above those before it, a row is above those before it and not above the last mode
+pub mode-rises : (tally : Tally) (mode : Mode) → Kept (modeRules tally mode) → tally .top .0 < mode .boundary .0
+unfolding modeRules
+mode-rises tally mode k = leb-false _ _ (k .1 .1 .0)
+
+pub row-rises : (bytes : List ℕ) (tally : Tally) (row : Row) → Kept (rowGapRules bytes tally row) → (tally .fastest .0 < row .speed .0) × (row .speed .0 ≤ tally .top .0)
+unfolding rowGapRules rowRules
+row-rises bytes tally row k = (leb-false _ _ (k .1 .1 .1 .0), ltb-false _ _ (k .1 .1 .1 .1 .0))
