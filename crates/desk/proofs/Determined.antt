@@ -1,6 +1,6 @@
 -- Each call's promise determines its answer, every lent cell and every byte of the witness area: two that are allowed are equal.
 use Prim.Native.Nat.{ℕ, _+_, _*_, _≤_, _<_}
-use native.Mathlib.Nat.{eq-zero-or-pos, mul-zero}
+use native.Mathlib.Nat.{eq-zero-or-pos, zero-mul}
 use mathlib.Core.Path.{_≡_, refl, sym, ap, ap₂, _∙_, subst}
 use mathlib.Core.Logic.{⊎-elim}
 use mathlib.Core.Bool.{Bool, true, false}
@@ -44,14 +44,14 @@ either-alike false T U E F C yes-both no-both a b = no-both a b
 
 -- whole lines of cells that have one right value each determine the area, also where a line has none
 lines-unique : (n : ℕ) (Right : ℕ → ℕ → ℕ → Type 0) (one : (line k v u : ℕ) → Right line k v → Right line k u → v ≡ u)
-    → (old a b : List ℕ) (count : ℕ) → Filled n Right old a (count * n) → Filled n Right old b (count * n) → a ≡ b
+    → (old a b : List ℕ) (count : ℕ) → Filled n Right old a (n * count) → Filled n Right old b (n * count) → a ≡ b
 lines-unique n Right one old a b count f g =
     ⊎-elim
     (λ e.
-      let none : count * n ≡ 0 = ap (λ (x : ℕ). count * x) e ∙ mul-zero count in
+      let none : n * count ≡ 0 = ap (λ (x : ℕ). x * count) e ∙ zero-mul count in
       ext-getD 0 a b (f .same-length ∙ sym (g .same-length)) λ place l.
       f .kept place (omega (arith, none)) ∙ sym (g .kept place (omega (arith, none))))
-    (λ p. filled-unique n Right old one a b (count * n) p f g)
+    (λ p. filled-unique n Right old one a b (n * count) p f g)
     (eq-zero-or-pos n)
 
 module _ (bytes : List ℕ) (count : ℕ) (old a b : List ℕ) where

@@ -47,9 +47,9 @@ abbrev pub Either : Bool → Type 0 → Type 0 → Type 0
 Either true Then Else = Then
 Either false Then Else = Else
 
--- the cells that the table by interval takes up to t, and the table by amount for `amounts` amounts
+-- how many cells a number of lines takes, one cell a row
 abbrev pub lines : List ℕ → ℕ → ℕ
-lines bytes count = count * rows bytes
+lines bytes count = rows bytes * count
 
 -- the first `count` lines of the table by interval are filled and nothing else has changed; likewise by amount
 abbrev pub FilledByInterval : List ℕ → ℕ → List ℕ → List ℕ → Type 0

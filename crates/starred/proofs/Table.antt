@@ -26,7 +26,8 @@ use Rattle.sheet.specs.Meaning.{graphOf, eachTask, tasksOf}
 use Rattle.sheet.specs.Proper.{Bytes}
 use Rattle.sheet.specs.declared.Answer.{Answer}
 use Rattle.sheet.specs.declared.Answer.the-variants.{Accepted, Refused}
-use Rattle.sheet.proofs.Accepted.{accepted-proper, proper-sound}
+use Rattle.sheet.proofs.Accepted.{accepted-proper}
+use Rattle.sheet.proofs.ProperGraph.{proper-sound}
 use Rattle.desk.specs.Answers.{shortestNumbers}
 use Rattle.desk.specs.Calls.{badAmount, graph, tasks, lines, ShortestGives, ShortestRefuses, ShortestAnswers, ShortestCall}
 use Rattle.desk.specs.declared.ShortestAnswer.{ShortestAnswer}
