@@ -21,24 +21,7 @@ use Rattle.desk.specs.declared.DemandAnswer.the-variants as demand-case
 use Rattle.desk.specs.declared.ShortestAnswer as shortest
 use Rattle.desk.specs.declared.ShortestAnswer.the-variants as shortest-case
 use Rattle.desk.specs.declared.VerdictAnswer as verdict
-use Rattle.desk.proofs.Determined.{begins-alike}
-
--- a call that refuses nothing has come to its answer
-came-to-answer : (answer : Answer) (outOfRange tooFew : Bool) (R : ℕ → ℕ → Type 0) (A : Type 0)
-    → ((number place : ℕ) → R number place → ⊥) → Begins answer outOfRange tooFew R A
-    → A × (answer ≡ sheet-case.Accepted) × (outOfRange ≡ false)
-came-to-answer (sheet-case.Refused number place) o f R A never b = absurd (never number place b)
-came-to-answer sheet-case.Accepted true f R A never b = absurd (never 11 0 b)
-came-to-answer sheet-case.Accepted false true R A never b = absurd (never 12 0 b)
-came-to-answer sheet-case.Accepted false false R A never b = (b, refl, refl)
-
--- and where the sheet is accepted, the number in range and the room enough, it does come to it
-pub comes-to-answer : (answer : Answer) (outOfRange tooFew : Bool) (R : ℕ → ℕ → Type 0) (A : Type 0)
-    → answer ≡ sheet-case.Accepted → outOfRange ≡ false → tooFew ≡ false → Begins answer outOfRange tooFew R A → A
-comes-to-answer answer o f R A accepted range room b =
-    subst (λ (x : Answer). Begins x false false R A) accepted
-    (subst (λ (x : Bool). Begins answer x false R A) range
-    (subst (λ (x : Bool). Begins answer o x R A) room b))
+use Rattle.desk.proofs.Beginnings.{begins-alike, came-to-answer, comes-to-answer}
 
 -- one of two promises, taken apart
 either-case : (test : Bool) (T E C : Type 0) → (T → C) → (E → C) → Either test T E → C

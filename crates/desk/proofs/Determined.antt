@@ -27,15 +27,7 @@ use Rattle.desk.specs.declared.MarginAnswer.the-variants as margin-case
 use Rattle.desk.specs.declared.ShortestAnswer as shortest
 use Rattle.desk.specs.declared.ShortestAnswer.the-variants as shortest-case
 use Rattle.desk.specs.declared.VerdictAnswer as verdict
-
--- two calls that begin alike both refuse alike or both answer
-pub begins-alike : (answer : Answer) (outOfRange tooFew : Bool) (R S : ℕ → ℕ → Type 0) (A B C : Type 0)
-    → ((number place : ℕ) → R number place → S number place → C) → (A → B → C)
-    → Begins answer outOfRange tooFew R A → Begins answer outOfRange tooFew S B → C
-begins-alike (sheet-case.Refused number place) o f R S A B C refused answered r s = refused number place r s
-begins-alike sheet-case.Accepted true f R S A B C refused answered r s = refused 11 0 r s
-begins-alike sheet-case.Accepted false true R S A B C refused answered r s = refused 12 0 r s
-begins-alike sheet-case.Accepted false false R S A B C refused answered r s = answered r s
+use Rattle.desk.proofs.Beginnings.{begins-alike}
 
 -- two promises chosen by the same test are both the one or both the other
 either-alike : (test : Bool) (T U E F C : Type 0) → (T → U → C) → (E → F → C) → Either test T E → Either test U F → C

@@ -1,6 +1,7 @@
-// The public calls: each takes the sheet's bytes, reads them itself and answers in lent memory.
+// The public calls: each takes the sheet's bytes, reads them itself, works in lent memory and answers for any bytes and any numbers.
+mod beginning;
 
-// The demand at an interval and how many rows its witness has.
+// The demand at an interval, and how many rows its witness has.
 pub enum DemandAnswer {
     Found {
         amount: u32,
@@ -45,3 +46,4 @@ pub enum VerdictAnswer {
         place: usize,
     },
 }
+

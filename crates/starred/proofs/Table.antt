@@ -31,7 +31,8 @@ use Rattle.sheet.proofs.ProperGraph.{proper-sound}
 use Rattle.desk.specs.Answers.{shortestNumbers}
 use Rattle.desk.specs.Calls.{badAmount, graph, tasks, lines, ShortestGives, ShortestRefuses, ShortestAnswers, ShortestCall}
 use Rattle.desk.specs.declared.ShortestAnswer.{ShortestAnswer}
-use Rattle.desk.proofs.Agreement.{comes-to-answer, told-refused}
+use Rattle.desk.proofs.Beginnings.{comes-to-answer}
+use Rattle.desk.proofs.Agreement.{told-refused}
 use Rattle.starred.specs.Cases.{Case, demand, witness, shortest, refused, margin, Accepts, Holds, All, cases}
 
 -- ---- the test
