@@ -1,0 +1,4 @@
+pub mod Followers
+pub mod Adding
+pub mod Lines
+pub mod NextCells

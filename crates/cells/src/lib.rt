@@ -1,0 +1,2 @@
+// The tables of cells, and what is read off them.
+pub mod interval;
