@@ -1,0 +1,5 @@
+pub mod Ready
+pub mod Followers
+pub mod Adding
+pub mod Amounts
+pub mod Releases
