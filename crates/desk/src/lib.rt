@@ -1,4 +1,5 @@
 // The public calls: each takes the sheet's bytes, reads them itself, works in lent memory and answers for any bytes and any numbers.
+mod answering;
 mod beginning;
 
 // The demand at an interval, and how many rows its witness has.
