@@ -2,3 +2,8 @@ pub mod Followers
 pub mod Adding
 pub mod Lines
 pub mod NextCells
+pub mod Searches
+pub mod Leading
+pub mod Witnesses
+pub mod Steps
+pub mod Writing

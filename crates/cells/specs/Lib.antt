@@ -1,3 +1,5 @@
 pub mod Ready
 pub mod Followers
 pub mod Adding
+pub mod Lines
+pub mod Stands

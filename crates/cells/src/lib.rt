@@ -1,2 +1,3 @@
 // The tables of cells, and what is read off them.
 pub mod interval;
+pub mod witness;
