@@ -5,3 +5,8 @@ pub mod NextCells
 pub mod Amounts
 pub mod Storing
 pub mod Releases
+pub mod Searches
+pub mod Leading
+pub mod Witnesses
+pub mod Steps
+pub mod Writing

@@ -2,3 +2,4 @@
 pub mod amount;
 pub mod interval;
 pub mod tasks;
+pub mod witness;
