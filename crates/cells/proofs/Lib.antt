@@ -5,3 +5,4 @@ pub mod NextCells
 pub mod Amounts
 pub mod Storing
 pub mod Releases
+pub mod Sweeping
