@@ -32,11 +32,10 @@ module _ (n : ℕ) (cells : List ℕ) (s gap j : ℕ) where
 
 module _ (bytes : List ℕ) (n : ℕ) (row : Row) (proper : ProperRow bytes n row) (fits : row .followers < 2 ^ 64) (cells : List ℕ) (s : ℕ) where
   -- what row j adds
-  via : ℕ → ℕ
+  abbrev pub via : ℕ → ℕ
   via = viaAt (gapOf bytes row) (cellAt n cells) s
 
-  via-follower : (j : ℕ) → bit (row .followers) j ≡ 1 → via j ≡ addedAt n cells s (gapTo bytes (row .followers) (row .gaps) j) j
-  unfolding via
+  pub via-follower : (j : ℕ) → bit (row .followers) j ≡ 1 → via j ≡ addedAt n cells s (gapTo bytes (row .followers) (row .gaps) j) j
   via-follower j e =
       let gap = gapTo bytes (row .followers) (row .gaps) j in
       let same : gapOf bytes row j ≡ gap = gap-of-follower bytes row j e in
@@ -46,8 +45,7 @@ module _ (bytes : List ℕ) (n : ℕ) (row : Row) (proper : ProperRow bytes n ro
       (λ l. via-late (gapOf bytes row) (cellAt n cells) s j (rw same (l .0)) ∙ added-late n cells s gap j (l .0))
       (le-or gap s)
 
-  via-other : (j : ℕ) → bit (row .followers) j ≡ 0 → via j ≡ 0
-  unfolding via
+  pub via-other : (j : ℕ) → bit (row .followers) j ≡ 0 → via j ≡ 0
   via-other j e = via-none (gapOf bytes row) (cellAt n cells) s j (omega (arith, gap-of-other bytes row j e))
 
   -- no row past n adds anything, and none past the width of the set
@@ -59,7 +57,7 @@ module _ (bytes : List ℕ) (n : ℕ) (row : Row) (proper : ProperRow bytes n ro
 
   -- the most over the set is the most over all rows
   pub most-added-is : mostAdded bytes cells (row .followers) (row .gaps) n s ≡ maxBelow n (viaAt (gapOf bytes row) (cellAt n cells) s)
-  unfolding mostAdded via
+  unfolding mostAdded
   most-added-is =
       fold-as-max
       (row .followers)

@@ -35,11 +35,17 @@ module _ (bytes : List ℕ) (n : ℕ) (row : Row) (proper : ProperRow bytes n ro
   pub row-followed : Followed bytes n (row .followers) (row .gaps)
   row-followed = record { exist = proper .followers-exist; inside = proper .gaps-inside }
 
-  -- no gap is 0
-  pub gap-positive : row .followers < 2 ^ 64 → (j : ℕ) → bit (row .followers) j ≡ 1 → 0 < gapTo bytes (row .followers) (row .gaps) j
-  gap-positive fits j e =
-      let counted : below (row .followers) j < below (row .followers) 64 = below-lt 64 (row .followers) j e (bit-within 64 (row .followers) j fits e) in
-      omega (arith, proper .deadline .0, proper .gap-least (below (row .followers) j) counted)
+  module _ (fits : row .followers < 2 ^ 64) (j : ℕ) (e : bit (row .followers) j ≡ 1) where
+    counted : below (row .followers) j < below (row .followers) 64
+    counted = below-lt 64 (row .followers) j e (bit-within 64 (row .followers) j fits e)
+
+    -- the gap to a follower is not 0
+    pub gap-positive : 0 < gapTo bytes (row .followers) (row .gaps) j
+    gap-positive = omega (arith, proper .deadline .0, proper .gap-least (below (row .followers) j) counted)
+
+    -- and stands in the file
+    pub gap-inside : row .gaps + gapSize * below (row .followers) j + 1 < length bytes
+    gap-inside = omega (arith, proper .gaps-inside, counted)
 
 -- `rest` is left of the set, `acc` is what f made of the rows before, and the gap of the next row stands at `place`
 pub record Passing {ℓ} {A : Type ℓ} (f : ℕ → A → A) (a : A) (followers first rest place : ℕ) (acc : A) : Type ℓ where
@@ -83,7 +89,7 @@ module _ {ℓ} {A : Type ℓ} (f : ℕ → A → A) (a : A) (followers first res
       )
 
   -- with its row done the next turn begins
-  pub passing-next : (other : A) → other ≡ f (trailingZeros 64 rest) acc → Passing f a followers first (bitAnd rest (rest - 1)) (place + 2) other
+  pub passing-next : (other : A) → other ≡ f (trailingZeros 64 rest) acc → Passing f a followers first (bitAnd rest (rest - 1)) (place + gapSize) other
   passing-next other e =
       let next = left-next f a 64 followers rest acc fits (p .left) some in
       let same = left-same f a 64 followers (bitAnd rest (rest - 1)) (f (trailingZeros 64 rest) acc) other e next in

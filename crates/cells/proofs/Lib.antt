@@ -6,3 +6,8 @@ pub mod Amounts
 pub mod Storing
 pub mod Releases
 pub mod Sweeping
+pub mod Searches
+pub mod Leading
+pub mod Witnesses
+pub mod Steps
+pub mod Writing

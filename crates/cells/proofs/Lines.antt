@@ -14,6 +14,7 @@ use Rattle.walks.specs.Demand.{IsDemand}
 use Rattle.walks.proofs.Tests.{lt-or}
 use Rattle.walks.proofs.ByInterval.{demand-is}
 use Rattle.walks.proofs.Filling.{filled-none, filled-one}
+use Rattle.cells.specs.Lines.{HasLines}
 
 -- a cell of one of the lines has its place before their end
 pub in-lines : (n line lines k used : ℕ) → line < lines → k < n → n * lines ≤ used → line * n + k < used
@@ -76,8 +77,15 @@ module _ (n : ℕ) (Right : ℕ → ℕ → ℕ → Type 0) (lines : ℕ) (old :
         pub upto-turn : k + 1 ≡ n → Upto n Right lines old (set cells place v) (place + 1) (line + 1) 0
         upto-turn last = record { row = omega (arith, last); is = omega (arith, upto .is, last); most = omega arith; filled = stored }
 
--- demand is the largest cell of a line that is filled by interval
-pub line-demand : (g : Graph) → Sound g → (old cells : List ℕ) (lines t : ℕ) → Filled (g .rows) (ByInterval g) old cells (g .rows * lines) → t < lines
+-- an area that was filled has its lines
+pub filled-lines : (n : ℕ) (Right : ℕ → ℕ → ℕ → Type 0) (lines : ℕ) (old cells : List ℕ) → n * lines ≤ length old → Filled n Right old cells (n * lines)
+    → HasLines n Right cells lines
+filled-lines n Right lines old cells room filled = record {
+  room = omega (arith, filled .same-length);
+  right = λ line k l h. filled .right line k h (in-lines n line lines k (n * lines) l h (omega arith));
+}
+
+-- demand is the largest cell of a line by interval
+pub line-demand : (g : Graph) → Sound g → (cells : List ℕ) (lines : ℕ) → HasLines (g .rows) (ByInterval g) cells lines → (t : ℕ) → t < lines
     → IsDemand g t (maxBelow (g .rows) (cellAt (g .rows) cells t))
-line-demand g sound old cells lines t filled h =
-    demand-is g sound t (cellAt (g .rows) cells t) (λ k l. filled .right t k l (in-lines (g .rows) t lines k (g .rows * lines) h l (omega arith)))
+line-demand g sound cells lines table t h = demand-is g sound t (cellAt (g .rows) cells t) (λ k l. table .right t k h l)

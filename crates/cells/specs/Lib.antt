@@ -5,3 +5,4 @@ pub mod Lines
 pub mod Amounts
 pub mod Releases
 pub mod Sweeping
+pub mod Stands

@@ -59,7 +59,7 @@ pub fn demand_of(cells: &[u32], n: usize, t: usize) -> u32
 }
 
 // The job length of each row.
-pub fn job_lengths(sheet: Sheet) -> [u32; Sheet::ROWS]
+pub(crate) fn job_lengths(sheet: Sheet) -> [u32; Sheet::ROWS]
     ensures { λ r. ⌜ AreLengths sheet r ⌝ }
 {
     let modes = sheet.modes;
@@ -107,7 +107,7 @@ fn most_added(bytes: &[u8], cells: &[u32], followers: u64, gaps: usize, n: usize
 }
 
 // What a row that follows after a gap adds.
-fn added(cells: &[u32], n: usize, s: usize, gap: Ticks, row: usize) -> u32
+pub(crate) fn added(cells: &[u32], n: usize, s: usize, gap: Ticks, row: usize) -> u32
     requires { ⌜ row < n ⌝ }
     requires { ⌜ n * (s + 1) ≤ length (now cells) ⌝ }
     ensures { λ r. ⌜ r ≡ addedAt n (now (cells .entry)) s (gap .0) row ⌝ }
@@ -120,7 +120,7 @@ fn added(cells: &[u32], n: usize, s: usize, gap: Ticks, row: usize) -> u32
 }
 
 // The gap at a place that is known to be inside the file.
-pub fn gap_at(bytes: &[u8], place: usize) -> Ticks
+pub(crate) fn gap_at(bytes: &[u8], place: usize) -> Ticks
     requires { ⌜ place + 1 < length (now bytes) ⌝ }
     ensures { λ r. ⌜ r ≡ ticksAt (now (bytes .entry)) place ⌝ }
 {

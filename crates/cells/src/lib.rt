@@ -3,3 +3,4 @@ pub mod amount;
 pub mod interval;
 pub mod sweep;
 pub mod tasks;
+pub mod witness;

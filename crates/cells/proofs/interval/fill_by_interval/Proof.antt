@@ -6,6 +6,7 @@ use lib.ListN.{length}
 use mathlib.Core.Path.{sym, subst}
 use native.Mathlib.Omega.{arith}
 use Rattle.walks.specs.Cells.{ByInterval}
+use Rattle.sheet.specs.Limits.{rowLimit}
 use Rattle.sheet.specs.Meaning.{graphOf}
 use Rattle.cells.proofs.Lines.{Upto, upto-start, upto-done, upto-filled, upto-line, upto-inside, upto-room, upto-next, upto-turn}
 use Rattle.cells.proofs.NextCells.{next-is, next-fits}
@@ -26,7 +27,8 @@ line-asked c = upto-line _ _ _ _ _ _ _ _ (c .before .loop .inv) (c .loop-test .t
 within : (c : tie.In-loop Inv-loop μ-loop) → c .before .loop .at < length (c .before .loop .cells)
 within c = upto-inside _ _ _ _ _ _ _ _ (c .before .loop .inv) (c .loop-test .taken) (c .before .before .before .before .before .before .pre .1 .1)
 
-row-few : (c : tie.At-loop Inv-loop μ-loop) → c .loop .k < 32
+-- the row is one that the arrays have
+row-few : (c : tie.At-loop Inv-loop μ-loop) → c .loop .k < rowLimit
 row-few c = omega (arith, c .loop .inv .row, c .before .before .before .before .before .pre .0 .proper .rows-most)
 
 -- what the cell is given is right

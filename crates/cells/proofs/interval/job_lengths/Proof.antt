@@ -8,15 +8,16 @@ use mathlib.Core.Logic.{⊎-elim}
 use mathlib.Core.Path.{_≡_, refl, sym, ap, _∙_}
 use native.Mathlib.Nat.{eq-or-lt-of-le}
 use native.Mathlib.Omega.{arith}
+use Rattle.sheet.specs.Limits.{rowLimit}
 use Rattle.sheet.specs.Meaning.{lengthOf}
 use Rattle.cells.proofs.interval.job_lengths.Statement.{statement}
 use Rattle.cells.proofs.interval.job_lengths.Tie as tie
 
 abbrev Inv-loop : tie.InvT-loop
-Inv-loop sheet modes tally lengths₀ k₀ lengths k = (k ≤ 32) × (length lengths ≡ 32) × ((i : ℕ) → i < k → getD lengths i 0 ≡ lengthOf sheet i)
+Inv-loop sheet modes tally lengths₀ k₀ lengths k = (k ≤ rowLimit) × (length lengths ≡ rowLimit) × ((i : ℕ) → i < k → getD lengths i 0 ≡ lengthOf sheet i)
 
 abbrev μ-loop : tie.MeasureT-loop
-μ-loop sheet modes tally lengths₀ k₀ lengths k = 32 - k
+μ-loop sheet modes tally lengths₀ k₀ lengths k = rowLimit - k
 
 -- one element more that is right
 one-more : (f : ℕ → ℕ) (l : List ℕ) (k v : ℕ) → k < length l → v ≡ f k → ((i : ℕ) → i < k → getD l i 0 ≡ f i)
