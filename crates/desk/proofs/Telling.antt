@@ -15,7 +15,7 @@ use Rattle.walks.specs.Graph.{Graph}
 use Rattle.walks.specs.Demand.{longestTime, noTime, IsDemand, IsWitness, IsShortest}
 use Rattle.walks.specs.Cells.{IsLeastFrom, ByInterval, ByAmount, Filled}
 use Rattle.walks.specs.Fixed.{Task, fixedSum}
-use Rattle.walks.specs.Verdict.{IsMargin}
+use Rattle.walks.specs.Verdict.{IsMargin, IsVerdict}
 use Rattle.walks.specs.Computed.{cellAt, cellFor, maxBelow, minBelow, witnessOf}
 use Rattle.walks.proofs.ByAmount.{shortest-is}
 use Rattle.walks.proofs.Differences.{sub-is64}
@@ -30,13 +30,16 @@ use Rattle.sheet.proofs.Accepted.{accepted-proper}
 use Rattle.sheet.proofs.ProperGraph.{proper-sound, length-proper}
 use Rattle.cells.specs.Ready.{Ready}
 use Rattle.cells.specs.Lines.{HasLines}
+use Rattle.cells.specs.Sweeping.{IsSwept, verdictOf}
+use Rattle.cells.specs.declared.sweep.Swept.{Swept}
 use Rattle.cells.proofs.Lines.{filled-lines, line-demand}
-use Rattle.desk.specs.Calls.{Either, graph, tasks, lines, FilledByInterval, FilledByAmount, DemandGives, DemandAnswers, MarginAnswers, ShortestGives, ShortestAnswers}
+use Rattle.desk.specs.Calls.{Either, graph, tasks, lines, FilledByInterval, FilledByAmount, DemandGives, DemandAnswers, MarginAnswers, ShortestGives, ShortestAnswers, VerdictAnswers, verdictAnswer}
 use Rattle.desk.specs.declared.DemandAnswer as demand
 use Rattle.desk.specs.declared.DemandAnswer.the-variants as demand-case
 use Rattle.desk.specs.declared.MarginAnswer.the-variants as margin-case
 use Rattle.desk.specs.declared.ShortestAnswer as shortest
 use Rattle.desk.specs.declared.ShortestAnswer.the-variants as shortest-case
+use Rattle.desk.specs.declared.VerdictAnswer as verdict
 
 -- the tables may be filled for every accepted sheet
 pub accepted-ready : (bytes : List ℕ) → Bytes bytes → judged bytes .answer ≡ Accepted → Ready bytes (judged bytes .sheet)
@@ -129,6 +132,28 @@ module _ (bytes : List ℕ) (sheet : Sheet) (is : sheet ≡ judged bytes .sheet)
         → time ≡ minBelow (sheet .tally .rows) noTime (cellFor (sheet .tally .rows) new b) → ShortestGives answer time
         → ShortestAnswers bytes b old answer new
     shortest-answers time answer least gives = (by-amount-told b old new filled, (time, shortest-told time least, gives))
+
+  -- a verdict from lines filled by interval
+  pub verdict-by-interval-told : (horizon : ℕ) (old new : List ℕ) → sheet .tally .rows * (horizon + 1) ≤ length old
+      → Filled (sheet .tally .rows) (ByInterval (graphOf bytes sheet)) old new (sheet .tally .rows * (horizon + 1))
+      → (swept : Swept) → IsSwept ByInterval sheet new horizon swept
+      → (answer : verdict.VerdictAnswer) → answer ≡ verdictAnswer (verdictOf swept) → VerdictAnswers FilledByInterval bytes horizon old answer new
+  verdict-by-interval-told horizon old new room filled swept says answer e =
+      (by-interval-told (horizon + 1) old new filled,
+      (verdictOf swept,
+      subst (λ (s : Sheet). IsVerdict (graphOf bytes s) (tasksOf s) horizon (verdictOf swept)) is
+      (says bytes ready (filled-lines (sheet .tally .rows) (ByInterval (graphOf bytes sheet)) (horizon + 1) old new room filled)), e))
+
+  -- and by amount
+  pub verdict-by-amount-told : (horizon : ℕ) (old new : List ℕ) → sheet .tally .rows * (horizon + 1) ≤ length old
+      → Filled (sheet .tally .rows) (ByAmount (graphOf bytes sheet)) old new (sheet .tally .rows * (horizon + 1))
+      → (swept : Swept) → IsSwept ByAmount sheet new horizon swept
+      → (answer : verdict.VerdictAnswer) → answer ≡ verdictAnswer (verdictOf swept) → VerdictAnswers FilledByAmount bytes horizon old answer new
+  verdict-by-amount-told horizon old new room filled swept says answer e =
+      (by-amount-told (horizon + 1) old new filled,
+      (verdictOf swept,
+      subst (λ (s : Sheet). IsVerdict (graphOf bytes s) (tasksOf s) horizon (verdictOf swept)) is
+      (says bytes ready (filled-lines (sheet .tally .rows) (ByAmount (graphOf bytes sheet)) (horizon + 1) old new room filled)), e))
 
 -- no time is 14, and any other is found
 pub gives-none : (time : ℕ) → time ≡ noTime → ShortestGives (shortest-case.Refused 14 0) time
