@@ -78,6 +78,7 @@ module _ (bytes : List ℕ) (t : ℕ) (cells area : List ℕ) (x y : demand.Dema
 
   pub demand-determined : DemandCall bytes t cells area x cells₁ area₁ → DemandCall bytes t cells area y cells₂ area₂
       → (x ≡ y) × (cells₁ ≡ cells₂) × (area₁ ≡ area₂)
+  unfolding DemandCall
   demand-determined =
       begins-alike (judged bytes .answer) (ltb longestTime t) (ltb (length cells) (lines bytes (t + 1)))
       (DemandRefuses cells area x cells₁ area₁) (DemandRefuses cells area y cells₂ area₂) _ _ _
@@ -93,6 +94,7 @@ module _ (bytes : List ℕ) (t : ℕ) (cells : List ℕ) (x y : margin.MarginAns
       by-interval-unique bytes (t + 1) cells cells₁ cells₂ filled₁ filled₂)
 
   pub margin-determined : MarginCall bytes t cells x cells₁ → MarginCall bytes t cells y cells₂ → (x ≡ y) × (cells₁ ≡ cells₂)
+  unfolding MarginCall
   margin-determined =
       begins-alike (judged bytes .answer) (ltb longestTime t) (ltb (length cells) (lines bytes (t + 1)))
       (MarginRefuses cells x cells₁) (MarginRefuses cells y cells₂) _ _ _
@@ -113,6 +115,7 @@ module _ (bytes : List ℕ) (b : ℕ) (cells : List ℕ) (x y : shortest.Shortes
       by-amount-unique bytes b cells cells₁ cells₂ filled₁ filled₂)
 
   pub shortest-determined : ShortestCall bytes b cells x cells₁ → ShortestCall bytes b cells y cells₂ → (x ≡ y) × (cells₁ ≡ cells₂)
+  unfolding ShortestCall
   shortest-determined =
       begins-alike (judged bytes .answer) (badAmount b) (ltb (length cells) (lines bytes b))
       (ShortestRefuses cells x cells₁) (ShortestRefuses cells y cells₂) _ _ _
@@ -132,6 +135,7 @@ module _ (FilledBy : List ℕ → ℕ → List ℕ → List ℕ → Type 0)
 
   verdict-determined : VerdictCall FilledBy bytes horizon cells x cells₁ → VerdictCall FilledBy bytes horizon cells y cells₂
       → (x ≡ y) × (cells₁ ≡ cells₂)
+  unfolding VerdictCall
   verdict-determined =
       begins-alike (judged bytes .answer) (ltb longestTime horizon) (ltb (length cells) (lines bytes (horizon + 1)))
       (VerdictRefuses cells x cells₁) (VerdictRefuses cells y cells₂) _ _ _

@@ -125,6 +125,7 @@ refused-by-14 bytes b answer number is-14 none cells cells′ (filled, (time, le
     ap (λ (a : ShortestAnswer). shortestNumbers a .number) (told-refused answer time no-time gives) ∙ sym is-14
 
 law : (c : Case) → T (right c) → Holds c
+unfolding ShortestCall
 law (demand bytes t d) h =
     let parts = both (accepts bytes) _ h in
     (accepted bytes (parts .0),
