@@ -1,7 +1,7 @@
 pub mod Followers
 pub mod Adding
 pub mod Lines
-pub mod NextCells
+pub mod SheetTables
 pub mod Searches
 pub mod Leading
 pub mod Witnesses

@@ -7,12 +7,8 @@ use native.Mathlib.Nat.{mul-le-mul}
 use native.Mathlib.Omega.{arith}
 use lib.Arith.{digits-lt}
 use lib.ListN.{length, set}
-use Rattle.walks.specs.Graph.{Graph, Sound}
-use Rattle.walks.specs.Cells.{ByInterval, Filled}
-use Rattle.walks.specs.Computed.{cellAt, maxBelow}
-use Rattle.walks.specs.Demand.{IsDemand}
+use Rattle.walks.specs.Cells.{Filled}
 use Rattle.walks.proofs.Tests.{lt-or}
-use Rattle.walks.proofs.ByInterval.{demand-is}
 use Rattle.walks.proofs.Filling.{filled-none, filled-one}
 use Rattle.cells.specs.Lines.{HasLines}
 
@@ -84,8 +80,3 @@ filled-lines n Right lines old cells room filled = record {
   room = omega (arith, filled .same-length);
   right = λ line k l h. filled .right line k h (in-lines n line lines k (n * lines) l h (omega arith));
 }
-
--- demand is the largest cell of a line by interval
-pub line-demand : (g : Graph) → Sound g → (cells : List ℕ) (lines : ℕ) → HasLines (g .rows) (ByInterval g) cells lines → (t : ℕ) → t < lines
-    → IsDemand g t (maxBelow (g .rows) (cellAt (g .rows) cells t))
-line-demand g sound cells lines table t h = demand-is g sound t (cellAt (g .rows) cells t) (λ k l. table .right t k h l)

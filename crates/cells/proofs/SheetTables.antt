@@ -1,15 +1,18 @@
--- The cell that comes next in an area that is filled by interval up to it.
+-- The table by interval of a sheet: the cell that comes next in an area that is filled up to it, and the demand that a line says.
 use mathlib.Core.Path.{_≡_}
 use mathlib.Core.List.{List}
 use Prim.Native.Nat.{ℕ, _+_, _*_, _^_, _≤_, _<_}
 use native.Mathlib.Omega.{arith}
 use Rattle.walks.specs.Cells.{ByInterval, Filled}
-use Rattle.walks.specs.Demand.{longestTime}
+use Rattle.walks.specs.Computed.{cellAt, maxBelow}
+use Rattle.walks.specs.Demand.{longestTime, IsDemand}
 use Rattle.walks.proofs.Bounds.{best-fits}
+use Rattle.walks.proofs.ByInterval.{demand-is}
 use Rattle.walks.proofs.Filling.{next-by-interval}
 use Rattle.sheet.specs.Meaning.{rowOf, lengthOf, graphOf}
 use Rattle.sheet.specs.declared.values.Sheet.{Sheet}
 use Rattle.cells.specs.Adding.{cellOf}
+use Rattle.cells.specs.Lines.{HasLines}
 use Rattle.cells.specs.Ready.{Ready}
 
 module _ (bytes : List ℕ) (sheet : Sheet) (ready : Ready bytes sheet) (old cells : List ℕ) (s k : ℕ) (h : k < sheet .tally .rows)
@@ -23,3 +26,11 @@ module _ (bytes : List ℕ) (sheet : Sheet) (ready : Ready bytes sheet) (old cel
   pub next-fits : s ≤ longestTime → cellOf bytes cells (rowOf sheet k) work (sheet .tally .rows) s < 2 ^ 32
   unfolding graphOf
   next-fits l = best-fits (graphOf bytes sheet) (ready .sound) longestTime (ready .lengths-most) (omega arith) k s _ l next-is
+
+-- demand is the largest cell of its line
+pub line-demand : (bytes : List ℕ) (sheet : Sheet) → Ready bytes sheet → (cells : List ℕ) (lines : ℕ)
+    → HasLines (sheet .tally .rows) (ByInterval (graphOf bytes sheet)) cells lines → (t : ℕ) → t < lines
+    → IsDemand (graphOf bytes sheet) t (maxBelow (sheet .tally .rows) (cellAt (sheet .tally .rows) cells t))
+unfolding graphOf
+line-demand bytes sheet ready cells lines table t l =
+    demand-is (graphOf bytes sheet) (ready .sound) t (cellAt (sheet .tally .rows) cells t) (λ k h. table .right t k l h)
