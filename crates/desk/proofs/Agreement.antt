@@ -68,8 +68,8 @@ module _ (bytes : List ℕ) (t : ℕ) (cells area : List ℕ) (amount count : �
           either-case (ltb (length area) (length witness)) _ _ _
           (λ (p : (demand-case.Found amount count ≡ demand-case.Refused 13 0) × (area′ ≡ area)). absurd (found-not-refused amount count 13 0 (p .0)))
           (λ (p : (demand-case.Found amount count ≡ demand-case.Found most (length witness)) × (area′ ≡ witness ++ drop (length witness) area)).
-            let same : most ≡ amount = cc in
-            (subst (IsDemand (graph bytes) t) same is, ltb-false longestTime t (came .2), came .1))
+          let same : most ≡ amount = cc in
+          (subst (IsDemand (graph bytes) t) same is, ltb-false longestTime t (came .2), came .1))
           gives
 
 -- a time that `shortest` found is the shortest interval, for an amount that may be asked about
@@ -90,9 +90,9 @@ module _ (bytes : List ℕ) (b : ℕ) (cells : List ℕ) (time : ℕ) (cells′ 
           either-case (eqb least noTime) _ _ _
           (λ (p : shortest-case.Found time ≡ shortest-case.Refused 14 0). absurd (time-not-refused time 14 0 p))
           (λ (p : shortest-case.Found time ≡ shortest-case.Found least).
-            let same : least ≡ time = cc in
-            let some : b ≡ 0 → ⊥ = eqb-false b 0 (neither (eqb b 0) (ltb (longestTime + 1) b) (came .2) .0) in
-            (subst (IsShortest (graph bytes) b) same is, omega arith))
+          let same : least ≡ time = cc in
+          let some : b ≡ 0 → ⊥ = eqb-false b 0 (neither (eqb b 0) (ltb (longestTime + 1) b) (came .2) .0) in
+          (subst (IsShortest (graph bytes) b) same is, omega arith))
           gives
 
 -- the shortest interval for b is at most t exactly when the demand at t is at least b
@@ -125,10 +125,9 @@ calls-agree-none bytes b amount count cells area cells′ area′ room room′ a
 
     given : ShortestAnswers bytes b room answer room′ → (answer ≡ shortest-case.Refused 14 0) ↔ (amount < b)
     given (filled, (time, is, gives)) =
-        let curve : (time ≡ noTime) ↔ (amount < b) = agree-none (graph bytes) b time some is amount (found .0) in
-        (
+        let curve : (time ≡ noTime) ↔ (amount < b) = agree-none (graph bytes) b time some is amount (found .0) in (
           (λ refused. curve .0 (told-none answer time refused gives)),
-          (λ below. told-refused answer time (curve .1 below) gives)
+          (λ below. told-refused answer time (curve .1 below) gives),
         )
 
 -- both verdicts are the same, wherever each has room enough

@@ -15,9 +15,14 @@ fill-by-interval-requires c κs =
 
 sweep-by-interval-requires : tie.Need-sweep-by-interval-requires
 sweep-by-interval-requires c κs =
-    let s = c .before .before .before .before .before .before .before in
-    ((_, s .pre .0 .proper), (s .pre .1 .1 .0, subst (λ (x : ℕ). s .args .sheet .tally .rows * (s .args .horizon + 1) ≤ x) (sym (c .before .before .before .fill-by-interval .ensures .same-length))
-    (room-told _ _ (s .pre .1 .0) (s .pre .0) (s .args .horizon + 1) (now (s .args .cells)) (s .pre .1 .1 .1))))
+    let s = c .before .before .before .before .before .before .before in (
+      (_, s .pre .0 .proper),
+      (
+        s .pre .1 .1 .0,
+        subst (λ (x : ℕ). s .args .sheet .tally .rows * (s .args .horizon + 1) ≤ x) (sym (c .before .before .before .fill-by-interval .ensures .same-length))
+            (room-told _ _ (s .pre .1 .0) (s .pre .0) (s .args .horizon + 1) (now (s .args .cells)) (s .pre .1 .1 .1)),
+      ),
+    )
 
 as-answer-requires : tie.Need-as-answer-requires
 as-answer-requires c κs = search needs
