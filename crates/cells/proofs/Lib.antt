@@ -1,0 +1,13 @@
+pub mod Followers
+pub mod Adding
+pub mod Lines
+pub mod SheetTables
+pub mod Searches
+pub mod Leading
+pub mod Witnesses
+pub mod Steps
+pub mod Writing
+pub mod Amounts
+pub mod Storing
+pub mod Releases
+pub mod Sweeping

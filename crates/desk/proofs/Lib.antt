@@ -1,0 +1,5 @@
+pub mod Beginnings
+pub mod Determined
+pub mod Agreement
+pub mod Telling
+pub mod Calling
