@@ -10,11 +10,9 @@ use prog.Wp.{Heap}
 use ghost.Atoms.{Atoms}
 use contract.Lifetimes.{Lfts}
 use contract.Monad.{Fun, fact}
-use denote.Ref.{RefT, now}
+use denote.Ref.{RefT}
 use denote.Triple.Clauses.{Ended, Clauses, AtExit}
 use denote.Triple.Entry.{Args, Res}
-use Rattle.sheet.specs.Reading.{fieldAt}
-use Rattle.reader.specs.Moving.{afterField}
 use Rattle.reader.specs.declared.Reader.{Reader}
 use Rattle.reader.proofs.Reader.advance as advance
 use Rattle.reader.proofs.Reader.new as new
@@ -27,48 +25,57 @@ module _ (T : Ended) where
   abbrev Contracts : Type 2
   Contracts = (M : Type 1) (𝓤 : URA M) (H : Heap 𝓤) → Atoms 𝓤 → (Memory → SProp 𝓤) → (Routine → Fun 𝓤) → Clauses 𝓤 T
 
-  -- all that the contract ensures is one fact of arguments and result, which two results cannot share
-  pub record Determines (contract : Contracts) (Allows : (κs : Lfts (T .signature .lifetimes)) → Args (T .signature) κs → Res (T .signature) κs → Type 0) : Type 2 where
-    pub ensures-that : (M : Type 1) (𝓤 : URA M) (H : Heap 𝓤) (A : Atoms 𝓤) (mem : Memory → SProp 𝓤) (run : Routine → Fun 𝓤) (κs : Lfts (T .signature .lifetimes)) (args : Args (T .signature) κs)
-        (ghost : contract M 𝓤 H A mem run κs args .ghost) (x : Res (T .signature) κs) (exit : AtExit T κs) → contract M 𝓤 H A mem run κs args .ensures ghost x exit ≡ fact 𝓤 (Allows κs args x)
-    pub one : (κs : Lfts (T .signature .lifetimes)) (args : Args (T .signature) κs) (x y : Res (T .signature) κs) → Allows κs args x → Allows κs args y → x ≡ y
+  -- a fact of lifetimes, arguments and result
+  abbrev Facts : Type 1
+  Facts = (κs : Lfts (T .signature .lifetimes)) → Args (T .signature) κs → Res (T .signature) κs → Type 0
+
+  -- the contract ensures that fact and nothing else
+  abbrev Ensures : Contracts → Facts → Type 2
+  Ensures contract allows =
+      (M : Type 1) (𝓤 : URA M) (H : Heap 𝓤) (A : Atoms 𝓤) (mem : Memory → SProp 𝓤) (run : Routine → Fun 𝓤) (κs : Lfts (T .signature .lifetimes)) (args : Args (T .signature) κs)
+      (ghost : contract M 𝓤 H A mem run κs args .ghost) (x : Res (T .signature) κs) (exit : AtExit T κs)
+      → contract M 𝓤 H A mem run κs args .ensures ghost x exit ≡ fact 𝓤 (allows κs args x)
+
+  pub record Determined (contract : Contracts) : Type 2 where
+    pub allows : Facts
+    pub ensures-that : Ensures contract allows
+    pub one : (κs : Lfts (T .signature .lifetimes)) (args : Args (T .signature) κs) (x y : Res (T .signature) κs) → allows κs args x → allows κs args y → x ≡ y
+
+  -- a contract that says which value it is leaves one
+  one-value : (contract : Contracts) (value : (κs : Lfts (T .signature .lifetimes)) → Args (T .signature) κs → Res (T .signature) κs)
+      → Ensures contract (λ κs args x. x ≡ value κs args) → Determined contract
+  one-value contract value ensures-that = record {
+    allows = λ κs args x. x ≡ value κs args;
+    ensures-that = ensures-that;
+    one = λ κs args x y p q. p ∙ sym q;
+  }
 
 same-reader : (x y : Reader) → x .bytes ≡ y .bytes → x .at ≡ y .at → x ≡ y
 same-reader x y p q =
-    ap (λ (b : RefT (List ℕ)). record { bytes = b; at = x .at }) p
-    ∙ ap (λ (n : ℕ). record { bytes = y .bytes; at = n }) q
+    ap (λ (bytes : RefT (List ℕ)). record { bytes = bytes; at = x .at }) p
+    ∙ ap (λ (at : ℕ). record { bytes = y .bytes; at = at }) q
 
-pub new-one : Determines new.ended (λ M 𝓤. new.clauses 𝓤) (λ κs args r. (r .bytes ≡ args .0) × (r .at ≡ 0))
+pub new-one : Determined new.ended (λ M 𝓤. new.clauses 𝓤)
 new-one =
     record {
+      allows = _;
       ensures-that = λ M 𝓤 H A mem run κs args ghost x exit. refl;
       one = λ κs args x y p q. same-reader x y (p .0 ∙ sym (q .0)) (p .1 ∙ sym (q .1));
     }
 
-pub step-one : Determines step.ended (λ M 𝓤. step.clauses 𝓤) (λ κs args s. s ≡ fieldAt (now (args .0 .bytes)) (args .0 .at))
-step-one =
-    record {
-      ensures-that = λ M 𝓤 H A mem run κs args ghost x exit. refl;
-      one = λ κs args x y p q. p ∙ sym q;
-    }
+pub step-one : Determined step.ended (λ M 𝓤. step.clauses 𝓤)
+step-one = one-value step.ended _ _ (λ M 𝓤 H A mem run κs args ghost x exit. refl)
 
-pub advance-one : Determines advance.ended (λ M 𝓤. advance.clauses 𝓤) (λ κs args r. (r .bytes ≡ args .0 .bytes) × (r .at ≡ afterField (args .0 .at) (fieldAt (now (args .0 .bytes)) (args .0 .at))))
+pub advance-one : Determined advance.ended (λ M 𝓤. advance.clauses 𝓤)
 advance-one =
     record {
+      allows = _;
       ensures-that = λ M 𝓤 H A mem run κs args ghost x exit. refl;
       one = λ κs args x y p q. same-reader x y (p .0 ∙ sym (q .0)) (p .1 ∙ sym (q .1));
     }
 
-pub after-at-one : Determines after-at.ended (λ M 𝓤. after-at.clauses 𝓤) (λ κs args r. r ≡ afterField (args .1 .0) (fieldAt (now (args .0)) (args .1 .0)))
-after-at-one =
-    record {
-      ensures-that = λ M 𝓤 H A mem run κs args ghost x exit. refl;
-      one = λ κs args x y p q. p ∙ sym q;
-    }
+pub after-at-one : Determined after-at.ended (λ M 𝓤. after-at.clauses 𝓤)
+after-at-one = one-value after-at.ended _ _ (λ M 𝓤 H A mem run κs args ghost x exit. refl)
 
-pub first-step-one : Determines first-step.ended (λ M 𝓤. first-step.clauses 𝓤) (λ κs args s. s ≡ fieldAt (now (args .0)) 0)
-first-step-one =
-    record {
-      ensures-that = λ M 𝓤 H A mem run κs args ghost x exit. refl;
-      one = λ κs args x y p q. p ∙ sym q;
-    }
+pub first-step-one : Determined first-step.ended (λ M 𝓤. first-step.clauses 𝓤)
+first-step-one = one-value first-step.ended _ _ (λ M 𝓤 H A mem run κs args ghost x exit. refl)

@@ -115,7 +115,8 @@ module _ {M : Type 1} (𝓤 : URA M) (H : Heap 𝓤) (A : Atoms 𝓤) (W : Given
     Asked r = sep 𝓤 (⋆ 𝓤 H A (token 𝓤 κ q ∷ ‵ (fields-own κ r) ∷ [])) (emp 𝓤)
 
     -- what there is on entry of a function of a reader gives that, and the reader
-    pub lends : (r : Reader) → r .at < 2 ^ 64 → ent 𝓤 (⋆ 𝓤 H A (token 𝓤 κ q ∷ ‵ (owns (Held (κ, tt) ∷ []) (r, tt) (reader-value r ∷ [], tt)) ∷ [])) (sep 𝓤 (Asked r) (sem 𝓤 H A (reader-own κ r)))
+    pub lends : (r : Reader) → r .at < 2 ^ 64
+        → ent 𝓤 (⋆ 𝓤 H A (token 𝓤 κ q ∷ ‵ (owns (Held (κ, tt) ∷ []) (r, tt) (reader-value r ∷ [], tt)) ∷ [])) (sep 𝓤 (Asked r) (sem 𝓤 H A (reader-own κ r)))
     lends r fits =
         qed W (token 𝓤 κ q ∷ ‵ (owns (Held (κ, tt) ∷ []) (r, tt) (reader-value r ∷ [], tt)) ∷ []) ∵
         move ! (1 ∷ []) $ fsplit ! $ move ! (1 ∷ []) $ drop ! $ use1 W (‵ (reader-own κ r) ⊛ ‵ (reader-own κ r)) (reader-twice r) $ split ! $

@@ -56,7 +56,10 @@ module _ {M : Type 1} (𝓤 : URA M) (H : Heap 𝓤) (A : Atoms 𝓤) (mem : Mem
       abbrev at-entry : Ended .Ghost
       at-entry = (((κ, tt), (q, tt), tt, (bytes, tt), (value ∷ [], tt)), tt)
 
-      exits : ent 𝓤 (onEntry 𝓤 H A new.signature (κ, tt) (q, tt) (bytes, tt) (value ∷ [], tt)) (Ended .post at-entry (reader-value at-start))
+      abbrev entry : SProp 𝓤
+      entry = onEntry 𝓤 H A new.signature (κ, tt) (q, tt) (bytes, tt) (value ∷ [], tt)
+
+      exits : ent 𝓤 entry (Ended .post at-entry (reader-value at-start))
       exits =
           qed W (token 𝓤 κ q ∷ ‵ (owns (Lent (κ, tt) ∷ []) (bytes, tt) (value ∷ [], tt)) ∷ []) ∵
           suffices ! _ (ends-at 𝓤 H A new.ended stayed (new.clauses 𝓤 H A mem run) W at-entry (reader-value at-start) at-start (tt, tt) (tt, tt)) $ says ! (refl, refl) $
@@ -64,13 +67,14 @@ module _ {M : Type 1} (𝓤 : URA M) (H : Heap 𝓤) (A : Atoms 𝓤) (mem : Mem
           move ! (0 ∷ 2 ∷ []) $ fjoin ! $ frame ! $ by ! (made 𝓤 H A W κ at-start (lit< tt))
 
       module _ (C : Calls 𝓤 H) (Λ : Loops 𝓤 H) where
-        walk : Is (Lent (κ, tt)) bytes (value ∷ []) → ent 𝓤 (onEntry 𝓤 H A new.signature (κ, tt) (q, tt) (bytes, tt) (value ∷ [], tt)) (WpFn 𝓤 H C Λ code.function (value ∷ []) (Ended .post at-entry))
+        walk : Is (Lent (κ, tt)) bytes (value ∷ []) → ent 𝓤 entry (WpFn 𝓤 H C Λ code.function (value ∷ []) (Ended .post at-entry))
         walk is =
             let types = shr-slice-lawful 𝓤 H A W (named 0) κ u8 .typed bytes (value ∷ []) is .0 in
-            qed W (raw (onEntry 𝓤 H A new.signature (κ, tt) (q, tt) (bytes, tt) (value ∷ [], tt)) ∷ []) ∵ enter ! C Λ code.function (value ∷ []) _ $
+            qed W (raw entry ∷ []) ∵ enter ! C Λ code.function (value ∷ []) _ $
             alloc1 ! (λ l₀. alloc1 ! (λ l₁. alloc0 ! $ params1 ! $ pass1 ! (init ! 0 refl types) $ pass0 ! $
             -- [_1; …; room for _0; …; what there is on entry]
-            assigns ! (agg ! (and-then ! (load ! (from ! (stop !)) (look ! 0 refl)) (and-then ! (lit ! tt) (no-more !)))) (from ! (stop !)) (init ! 2 refl (tt, (types .1, (record { fits = lit< tt }, tt)))) $
+            assigns ! (agg ! (and-then ! (load ! (from ! (stop !)) (look ! 0 refl)) (and-then ! (lit ! tt) (no-more !)))) (from ! (stop !))
+            (init ! 2 refl (tt, (types .1, (record { fits = lit< tt }, tt)))) $
             returns ! (look ! 2 refl) $ forget ! 0 refl $ forget ! 2 refl $ move ! (2 ∷ 3 ∷ []) $ free1 ! $ free1 ! $ free0 ! $ by ! exits))
 
     walks : (C : Calls 𝓤 H) (Λ : Loops 𝓤 H) → Walks 𝓤 H A new.ended stayed (WpFn 𝓤 H C Λ code.function) (new.clauses 𝓤 H A mem run)
@@ -81,7 +85,8 @@ module _ {M : Type 1} (𝓤 : URA M) (H : Heap 𝓤) (A : Atoms 𝓤) (mem : Mem
 
     meets : (𝓣 : Tables 𝓤 H) → Meets 𝓤 H A new.signature (WpFn 𝓤 H (𝓣 .C) (𝓣 .Λ) code.function) (new.spec 𝓤 H A mem run)
     meets 𝓣 =
-        walk-meets 𝓤 H A new.ended stayed W (goes-none-slice 𝓤 H A W 1 (0 ∷ []) tt (plain (λ _. u8)) yes, tt) (new.clauses 𝓤 H A mem run) (WpFn 𝓤 H (𝓣 .C) (𝓣 .Λ) code.function) (WpFn-mono 𝓤 H (W .laws) 𝓣 code.function)
+        walk-meets 𝓤 H A new.ended stayed W (goes-none-slice 𝓤 H A W 1 (0 ∷ []) tt (plain (λ _. u8)) yes, tt) (new.clauses 𝓤 H A mem run)
+        (WpFn 𝓤 H (𝓣 .C) (𝓣 .Λ) code.function) (WpFn-mono 𝓤 H (W .laws) 𝓣 code.function)
         (walks (𝓣 .C) (𝓣 .Λ))
 
 pub new-spec : {M : Type 1} → stated.statement M
