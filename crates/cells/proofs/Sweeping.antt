@@ -3,7 +3,7 @@ use mathlib.Core.Path.{_≡_, sym, ap, ap₂, subst, _∙_}
 use mathlib.Core.Logic.{⊎-elim, inl, inr}
 use mathlib.Core.Bool.{Bool, true, false, false≢true}
 use mathlib.Core.List.{List}
-use Prim.Native.Nat.{ℕ, suc, _+_, _-_, _*_, _^_, _≤_, _<_}
+use Prim.Native.Nat.{ℕ, suc, _+_, _-_, _≤_, _<_}
 use native.Mathlib.Nat.{eq-or-lt-of-le}
 use native.Mathlib.Numerals.{add-one}
 use native.Mathlib.Omega.{arith}
@@ -23,13 +23,13 @@ use Rattle.sheet.specs.Meaning.{graphOf, tasksOf}
 use Rattle.sheet.specs.declared.values.Sheet.{Sheet}
 use Rattle.cells.specs.Lines.{HasLines}
 use Rattle.cells.specs.Ready.{Ready}
-use Rattle.cells.specs.Releases.{Running, Advanced}
+use Rattle.cells.specs.Releases.{Advanced}
 use Rattle.cells.specs.Sweeping.{overAt, reachedAt, overrunAt, tableOf}
 use Rattle.cells.specs.declared.sweep.Table.{Table}
 use Rattle.cells.specs.declared.sweep.Table.the-variants.{Interval, Amount}
 use Rattle.cells.proofs.Amounts.{line-shortest}
 use Rattle.cells.proofs.Lines.{line-demand}
-use Rattle.cells.proofs.Releases.{running-on}
+use Rattle.cells.proofs.Releases.{Running, running-on}
 
 -- ---- the tests
 

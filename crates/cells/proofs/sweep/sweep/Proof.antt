@@ -1,9 +1,9 @@
 -- `sweep` meets its contract. Fixed demand runs along with the intervals, and none of those passed is overrun.
 use Prim.Native.Nat.{_+_, _-_, _*_, _^_, _≤_, _<_}
-use Rattle.cells.proofs.Releases.{running-start}
+use Rattle.cells.proofs.Releases.{Running}
+use Rattle.cells.proofs.SheetTasks.{running-start}
 use Rattle.cells.proofs.Sweeping.{sheet-decides, Sweeping, sweeping-start, running-next, sweeping-on, sweeping-overrun, sweeping-holds}
 use Rattle.cells.proofs.sweep.sweep.Statement.{statement}
-use Rattle.cells.specs.Releases.{Running}
 use Rattle.cells.specs.Sweeping.{overrunAt}
 use Rattle.sheet.proofs.ProperTasks.{tasks-count, tasks-fit}
 use Rattle.sheet.specs.Meaning.{tasksOf}
