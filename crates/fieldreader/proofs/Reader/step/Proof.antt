@@ -35,12 +35,12 @@ use Rattle.sheet.proofs.reader.field_at as field-at
 use Rattle.sheet.proofs.reader.field_at.Met as field-at-met
 use Rattle.sheet.proofs.reader.field_at.Symbol as field-at-symbol
 use Rattle.sheet.proofs.reader.field_at.Symbol.{name as #sheet·reader·field-at}
-use Rattle.reader.specs.declared.Reader.{Reader}
-use Rattle.reader.proofs.Holding.{Held, reader-value, reader-tells, kept, kept-goes, reader-own, passed, token, typed, lends}
-use Rattle.reader.proofs.Reader.step as step
-use Rattle.reader.proofs.Reader.step.Code as code
-use Rattle.reader.proofs.Reader.step.Key.{name as #reader·Reader·step}
-use Rattle.reader.proofs.Reader.step.Statement as stated
+use Rattle.fieldreader.specs.declared.Reader.{Reader}
+use Rattle.fieldreader.proofs.Holding.{Held, reader-value, reader-tells, kept, kept-goes, reader-own, passed, token, typed, lends}
+use Rattle.fieldreader.proofs.Reader.step as step
+use Rattle.fieldreader.proofs.Reader.step.Code as code
+use Rattle.fieldreader.proofs.Reader.step.Key.{name as #fieldreader·Reader·step}
+use Rattle.fieldreader.proofs.Reader.step.Statement as stated
 
 abbrev stayed : Stays (step.ended .signature .params) (step.ended .kept)
 stayed = (kept, tt)
@@ -127,6 +127,6 @@ pub step-spec : {M : Type 1} → stated.statement M
 unfolding code.routine tablesOf
 step-spec 𝓤 H 𝓜 𝓖 𝓡 =
     entered 𝓤 H (tripleOf 𝓤 H (𝓖 .A) step.signature (step.spec 𝓤 H (𝓖 .A) (𝓜 .mem) (𝓡 .run)))
-    (tables 𝓤 H 𝓜 𝓡 code.env .C) (tables 𝓤 H 𝓜 𝓡 code.env .Λ) #reader·Reader·step code.function (code.unfolded 𝓤 H 𝓜 𝓡)
+    (tables 𝓤 H 𝓜 𝓡 code.env .C) (tables 𝓤 H 𝓜 𝓡 code.env .Λ) #fieldreader·Reader·step code.function (code.unfolded 𝓤 H 𝓜 𝓡)
     (meets 𝓤 H (𝓖 .A) (𝓜 .mem) (𝓡 .run) (givenOf 𝓤 H 𝓜 𝓖) (tablesOf 𝓤 H 𝓜 (tables 𝓤 H 𝓜 𝓡 code.env))
     (cited 𝓤 H (FieldAt 𝓤 H (𝓖 .A) (𝓜 .mem) (𝓡 .run)) 𝓜 𝓡 code.env #sheet·reader·field-at field-at-symbol.routine code.calls-sheet·reader·field-at (field-at-met.met 𝓤 H 𝓜 𝓖 𝓡)))

@@ -27,9 +27,9 @@ use denote.Struct.Rest.{all-own, ownAt, rest, own-open, own-out, own-shut}
 use denote.Struct.Values.{Values}
 use denote.Exit.{yes}
 use denote.Triple.Walked.{Stay, Goes, stay-none, goes-none}
-use Rattle.reader.specs.declared.Reader.{Reader}
-use Rattle.reader.proofs.Reader as reader-type
-use Rattle.reader.proofs.Reader.Laws as reader-laws
+use Rattle.fieldreader.specs.declared.Reader.{Reader}
+use Rattle.fieldreader.proofs.Reader as reader-type
+use Rattle.fieldreader.proofs.Reader.Laws as reader-laws
 
 -- the types of bytes and of a reader, over the lifetimes of a signature
 abbrev pub Lent : Lfts 1 → RattleType

@@ -39,22 +39,22 @@ use Rattle.sheet.specs.Reading.{fieldAt}
 use Rattle.sheet.specs.declared.reader.Step.{Step}
 use Rattle.sheet.proofs.reader.Step as step-type
 use Rattle.sheet.proofs.reader.Step.Laws as step-laws
-use Rattle.reader.specs.declared.Reader.{Reader}
-use Rattle.reader.proofs.Holding.{Lent, Held, bytes-value, bytes-own, token, bytes-twice}
-use Rattle.reader.proofs.Reader as reader-type
-use Rattle.reader.proofs.Reader.Laws as reader-laws
-use Rattle.reader.proofs.Reader.new as new
-use Rattle.reader.proofs.Reader.new.Met as new-met
-use Rattle.reader.proofs.Reader.new.Symbol as new-symbol
-use Rattle.reader.proofs.Reader.new.Symbol.{name as #reader·Reader·new}
-use Rattle.reader.proofs.Reader.step as step
-use Rattle.reader.proofs.Reader.step.Met as step-met
-use Rattle.reader.proofs.Reader.step.Symbol as step-symbol
-use Rattle.reader.proofs.Reader.step.Symbol.{name as #reader·Reader·step}
-use Rattle.reader.proofs.first_step as first-step
-use Rattle.reader.proofs.first_step.Code as code
-use Rattle.reader.proofs.first_step.Key.{name as #reader·first-step}
-use Rattle.reader.proofs.first_step.Statement as stated
+use Rattle.fieldreader.specs.declared.Reader.{Reader}
+use Rattle.fieldreader.proofs.Holding.{Lent, Held, bytes-value, bytes-own, token, bytes-twice}
+use Rattle.fieldreader.proofs.Reader as reader-type
+use Rattle.fieldreader.proofs.Reader.Laws as reader-laws
+use Rattle.fieldreader.proofs.Reader.new as new
+use Rattle.fieldreader.proofs.Reader.new.Met as new-met
+use Rattle.fieldreader.proofs.Reader.new.Symbol as new-symbol
+use Rattle.fieldreader.proofs.Reader.new.Symbol.{name as #fieldreader·Reader·new}
+use Rattle.fieldreader.proofs.Reader.step as step
+use Rattle.fieldreader.proofs.Reader.step.Met as step-met
+use Rattle.fieldreader.proofs.Reader.step.Symbol as step-symbol
+use Rattle.fieldreader.proofs.Reader.step.Symbol.{name as #fieldreader·Reader·step}
+use Rattle.fieldreader.proofs.first_step as first-step
+use Rattle.fieldreader.proofs.first_step.Code as code
+use Rattle.fieldreader.proofs.first_step.Key.{name as #fieldreader·first-step}
+use Rattle.fieldreader.proofs.first_step.Statement as stated
 
 abbrev stayed : Stays (first-step.ended .signature .params) (first-step.ended .kept)
 stayed = (stay-none-slice (0 ∷ []) tt (plain (λ _. u8)) yes, tt)
@@ -146,7 +146,7 @@ module _ {M : Type 1} (𝓤 : URA M) (H : Heap 𝓤) (A : Atoms 𝓤) (mem : Mem
           move ! (1 ∷ []) $ frame ! $ nothing ! $ move ! (2 ∷ 0 ∷ []) $ fjoin ! $ frame ! $ done !
 
       module _ (C : Calls 𝓤 H) (Λ : Loops 𝓤 H) (fm : FmC 𝓤 H (W .laws) C)
-          (known-new : Triple 𝓤 (C #reader·Reader·new) New) (known-step : Triple 𝓤 (C #reader·Reader·step) TakeStep) where
+          (known-new : Triple 𝓤 (C #fieldreader·Reader·new) New) (known-step : Triple 𝓤 (C #fieldreader·Reader·step) TakeStep) where
         walk : Is (Lent (κ, tt)) bytes (value ∷ []) → ent 𝓤 entry (WpFn 𝓤 H C Λ code.function (value ∷ []) (Ended .post at-entry))
         walk is =
             qed W (raw entry ∷ []) ∵ enter ! C Λ code.function (value ∷ []) _ $
@@ -170,14 +170,14 @@ module _ {M : Type 1} (𝓤 : URA M) (H : Heap 𝓤) (A : Atoms 𝓤) (mem : Mem
             move ! (7 ∷ 8 ∷ []) $ free1 ! $ move ! (5 ∷ 6 ∷ []) $ free1 ! $ move ! (3 ∷ 4 ∷ []) $ free1 ! $ free0 ! $
             by ! (exits s u′ (found-at-start r s starts finds)))))))))))))
 
-    walks : (C : Calls 𝓤 H) (Λ : Loops 𝓤 H) → FmC 𝓤 H (W .laws) C → Triple 𝓤 (C #reader·Reader·new) New → Triple 𝓤 (C #reader·Reader·step) TakeStep
+    walks : (C : Calls 𝓤 H) (Λ : Loops 𝓤 H) → FmC 𝓤 H (W .laws) C → Triple 𝓤 (C #fieldreader·Reader·new) New → Triple 𝓤 (C #fieldreader·Reader·step) TakeStep
         → Walks 𝓤 H A first-step.ended stayed (WpFn 𝓤 H C Λ code.function) (first-step.clauses 𝓤 H A mem run)
     walks C Λ fm known-new known-step =
         walked 𝓤 H A first-step.ended stayed (first-step.clauses 𝓤 H A mem run) (WpFn 𝓤 H C Λ code.function)
         (λ κs. (slice-vals, tt)) (λ κs. (shr-slice-tells (named 0) (κs .0) u8, tt))
         (λ κs qs bounds a g are. via 𝓤 _ (fst∗ 𝓤 _ (emp 𝓤)) (walk (κs .0) (qs .0) (a .0) C Λ fm known-new known-step (are .0)))
 
-    meets : (𝓣 : Tables 𝓤 H) → Triple 𝓤 (𝓣 .C #reader·Reader·new) New → Triple 𝓤 (𝓣 .C #reader·Reader·step) TakeStep
+    meets : (𝓣 : Tables 𝓤 H) → Triple 𝓤 (𝓣 .C #fieldreader·Reader·new) New → Triple 𝓤 (𝓣 .C #fieldreader·Reader·step) TakeStep
         → Meets 𝓤 H A first-step.signature (WpFn 𝓤 H (𝓣 .C) (𝓣 .Λ) code.function) (first-step.spec 𝓤 H A mem run)
     meets 𝓣 known-new known-step =
         walk-meets 𝓤 H A first-step.ended stayed W (goes-none-slice 𝓤 H A W 1 (0 ∷ []) tt (plain (λ _. u8)) yes, tt) (first-step.clauses 𝓤 H A mem run)
@@ -188,7 +188,7 @@ pub first-step-spec : {M : Type 1} → stated.statement M
 unfolding code.routine tablesOf
 first-step-spec 𝓤 H 𝓜 𝓖 𝓡 =
     entered 𝓤 H (tripleOf 𝓤 H (𝓖 .A) first-step.signature (first-step.spec 𝓤 H (𝓖 .A) (𝓜 .mem) (𝓡 .run)))
-    (tables 𝓤 H 𝓜 𝓡 code.env .C) (tables 𝓤 H 𝓜 𝓡 code.env .Λ) #reader·first-step code.function (code.unfolded 𝓤 H 𝓜 𝓡)
+    (tables 𝓤 H 𝓜 𝓡 code.env .C) (tables 𝓤 H 𝓜 𝓡 code.env .Λ) #fieldreader·first-step code.function (code.unfolded 𝓤 H 𝓜 𝓡)
     (meets 𝓤 H (𝓖 .A) (𝓜 .mem) (𝓡 .run) (givenOf 𝓤 H 𝓜 𝓖) (tablesOf 𝓤 H 𝓜 (tables 𝓤 H 𝓜 𝓡 code.env))
-    (cited 𝓤 H (New 𝓤 H (𝓖 .A) (𝓜 .mem) (𝓡 .run)) 𝓜 𝓡 code.env #reader·Reader·new new-symbol.routine code.calls-reader·Reader·new (new-met.met 𝓤 H 𝓜 𝓖 𝓡))
-    (cited 𝓤 H (TakeStep 𝓤 H (𝓖 .A) (𝓜 .mem) (𝓡 .run)) 𝓜 𝓡 code.env #reader·Reader·step step-symbol.routine code.calls-reader·Reader·step (step-met.met 𝓤 H 𝓜 𝓖 𝓡)))
+    (cited 𝓤 H (New 𝓤 H (𝓖 .A) (𝓜 .mem) (𝓡 .run)) 𝓜 𝓡 code.env #fieldreader·Reader·new new-symbol.routine code.calls-fieldreader·Reader·new (new-met.met 𝓤 H 𝓜 𝓖 𝓡))
+    (cited 𝓤 H (TakeStep 𝓤 H (𝓖 .A) (𝓜 .mem) (𝓡 .run)) 𝓜 𝓡 code.env #fieldreader·Reader·step step-symbol.routine code.calls-fieldreader·Reader·step (step-met.met 𝓤 H 𝓜 𝓖 𝓡)))

@@ -31,12 +31,12 @@ use denote.Triple.Spec.{Meets, tripleOf}
 use denote.Triple.Statement.{Contract}
 use denote.Triple.Table.{entered}
 use denote.Triple.Walked.{says, Stays, stay-none-slice, walkOf, goes-none-slice, Walks, ends-at, walked, walk-meets}
-use Rattle.reader.specs.declared.Reader.{Reader}
-use Rattle.reader.proofs.Holding.{Lent, bytes-value, reader-value, bytes-own, token, bytes-twice, made}
-use Rattle.reader.proofs.Reader.new as new
-use Rattle.reader.proofs.Reader.new.Code as code
-use Rattle.reader.proofs.Reader.new.Key.{name as #reader·Reader·new}
-use Rattle.reader.proofs.Reader.new.Statement as stated
+use Rattle.fieldreader.specs.declared.Reader.{Reader}
+use Rattle.fieldreader.proofs.Holding.{Lent, bytes-value, reader-value, bytes-own, token, bytes-twice, made}
+use Rattle.fieldreader.proofs.Reader.new as new
+use Rattle.fieldreader.proofs.Reader.new.Code as code
+use Rattle.fieldreader.proofs.Reader.new.Key.{name as #fieldreader·Reader·new}
+use Rattle.fieldreader.proofs.Reader.new.Statement as stated
 
 abbrev stayed : Stays (new.ended .signature .params) (new.ended .kept)
 stayed = (stay-none-slice (0 ∷ []) tt (plain (λ _. u8)) yes, tt)
@@ -93,5 +93,5 @@ pub new-spec : {M : Type 1} → stated.statement M
 unfolding code.routine tablesOf
 new-spec 𝓤 H 𝓜 𝓖 𝓡 =
     entered 𝓤 H (tripleOf 𝓤 H (𝓖 .A) new.signature (new.spec 𝓤 H (𝓖 .A) (𝓜 .mem) (𝓡 .run)))
-    (tables 𝓤 H 𝓜 𝓡 code.env .C) (tables 𝓤 H 𝓜 𝓡 code.env .Λ) #reader·Reader·new code.function (code.unfolded 𝓤 H 𝓜 𝓡)
+    (tables 𝓤 H 𝓜 𝓡 code.env .C) (tables 𝓤 H 𝓜 𝓡 code.env .Λ) #fieldreader·Reader·new code.function (code.unfolded 𝓤 H 𝓜 𝓡)
     (meets 𝓤 H (𝓖 .A) (𝓜 .mem) (𝓡 .run) (givenOf 𝓤 H 𝓜 𝓖) (tablesOf 𝓤 H 𝓜 (tables 𝓤 H 𝓜 𝓡 code.env)))

@@ -1,9 +1,9 @@
 -- `after_at` meets its contract: in either arm of its match, what `field_at` found is what the definition goes by.
 use mathlib.Core.Path.{ap, sym, _∙_}
 use borrow.Author.Needs.{needs}
-use Rattle.reader.specs.Moving.{afterField}
-use Rattle.reader.proofs.after_at.Statement.{statement}
-use Rattle.reader.proofs.after_at.Tie as tie
+use Rattle.fieldreader.specs.Moving.{afterField}
+use Rattle.fieldreader.proofs.after_at.Statement.{statement}
+use Rattle.fieldreader.proofs.after_at.Tie as tie
 
 field-at-requires : tie.Need-field-at-requires
 field-at-requires c κs = search needs

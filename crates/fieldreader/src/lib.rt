@@ -3,7 +3,7 @@ use sheet::reader::Step;
 use sheet::reader::field_at;
 ghost use mathlib.Core.Path.{_≡_};
 ghost use Rattle.sheet.specs.Reading.{fieldAt};
-ghost use Rattle.reader.specs.Moving.{afterField};
+ghost use Rattle.fieldreader.specs.Moving.{afterField};
 
 pub struct Reader<'a> {
     pub bytes: &'a [u8],

@@ -13,12 +13,12 @@ use contract.Monad.{Fun, fact}
 use denote.Ref.{RefT}
 use denote.Triple.Clauses.{Ended, Clauses, AtExit}
 use denote.Triple.Entry.{Args, Res}
-use Rattle.reader.specs.declared.Reader.{Reader}
-use Rattle.reader.proofs.Reader.advance as advance
-use Rattle.reader.proofs.Reader.new as new
-use Rattle.reader.proofs.Reader.step as step
-use Rattle.reader.proofs.after_at as after-at
-use Rattle.reader.proofs.first_step as first-step
+use Rattle.fieldreader.specs.declared.Reader.{Reader}
+use Rattle.fieldreader.proofs.Reader.advance as advance
+use Rattle.fieldreader.proofs.Reader.new as new
+use Rattle.fieldreader.proofs.Reader.step as step
+use Rattle.fieldreader.proofs.after_at as after-at
+use Rattle.fieldreader.proofs.first_step as first-step
 
 module _ (T : Ended) where
   -- a function's contract, in every model of the logic

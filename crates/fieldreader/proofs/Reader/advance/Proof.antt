@@ -32,17 +32,17 @@ use denote.Triple.Spec.{Meets, tripleOf}
 use denote.Triple.Table.{entered, cited}
 use denote.Triple.Walked.{says, Stays, walkOf, Walks, ends-at, walked, walk-meets}
 use Rattle.sheet.specs.Reading.{fieldAt}
-use Rattle.reader.specs.Moving.{afterField}
-use Rattle.reader.specs.declared.Reader.{Reader}
-use Rattle.reader.proofs.Holding.{Held, reader-value, reader-tells, kept, kept-goes, bytes-own, reader-own, passed, token, typed, reader-twice, opened, made, lends}
-use Rattle.reader.proofs.after_at as after-at
-use Rattle.reader.proofs.after_at.Met as after-at-met
-use Rattle.reader.proofs.after_at.Symbol as after-at-symbol
-use Rattle.reader.proofs.after_at.Symbol.{name as #reader·after-at}
-use Rattle.reader.proofs.Reader.advance as advance
-use Rattle.reader.proofs.Reader.advance.Code as code
-use Rattle.reader.proofs.Reader.advance.Key.{name as #reader·Reader·advance}
-use Rattle.reader.proofs.Reader.advance.Statement as stated
+use Rattle.fieldreader.specs.Moving.{afterField}
+use Rattle.fieldreader.specs.declared.Reader.{Reader}
+use Rattle.fieldreader.proofs.Holding.{Held, reader-value, reader-tells, kept, kept-goes, bytes-own, reader-own, passed, token, typed, reader-twice, opened, made, lends}
+use Rattle.fieldreader.proofs.after_at as after-at
+use Rattle.fieldreader.proofs.after_at.Met as after-at-met
+use Rattle.fieldreader.proofs.after_at.Symbol as after-at-symbol
+use Rattle.fieldreader.proofs.after_at.Symbol.{name as #fieldreader·after-at}
+use Rattle.fieldreader.proofs.Reader.advance as advance
+use Rattle.fieldreader.proofs.Reader.advance.Code as code
+use Rattle.fieldreader.proofs.Reader.advance.Key.{name as #fieldreader·Reader·advance}
+use Rattle.fieldreader.proofs.Reader.advance.Statement as stated
 
 abbrev stayed : Stays (advance.ended .signature .params) (advance.ended .kept)
 stayed = (kept, tt)
@@ -96,7 +96,7 @@ module _ {M : Type 1} (𝓤 : URA M) (H : Heap 𝓤) (A : Atoms 𝓤) (mem : Mem
           drop ! $ frame ! $ use1 W (‵ (reader-own κ r) ⊛ ‵ (reader-own κ r)) (reader-twice 𝓤 H A W κ r) $ split ! $
           nothing ! $ move ! (1 ∷ 0 ∷ []) $ fjoin ! $ frame ! $ use1 W (‵ (bytes-own κ (r .bytes))) (opened 𝓤 H A W κ r) $ by ! (made 𝓤 H A W κ (moved at) fits)
 
-      module _ (C : Calls 𝓤 H) (Λ : Loops 𝓤 H) (fm : FmC 𝓤 H (W .laws) C) (known : Triple 𝓤 (C #reader·after-at) AfterAt) where
+      module _ (C : Calls 𝓤 H) (Λ : Loops 𝓤 H) (fm : FmC 𝓤 H (W .laws) C) (known : Triple 𝓤 (C #fieldreader·after-at) AfterAt) where
         walk : Is (Held (κ, tt)) r (value ∷ []) → ent 𝓤 entry (WpFn 𝓤 H C Λ code.function (value ∷ []) (Ended .post at-entry))
         walk is =
             let types = typed 𝓤 H A W κ r is in
@@ -121,14 +121,14 @@ module _ {M : Type 1} (𝓤 : URA M) (H : Heap 𝓤) (A : Atoms 𝓤) (mem : Mem
             move ! (7 ∷ 8 ∷ []) $ free1 ! $ move ! (5 ∷ 6 ∷ []) $ free1 ! $ move ! (3 ∷ 4 ∷ []) $ free1 ! $ free0 ! $
             by ! (exits at u (is-place .1) is-after)))))))))))
 
-    walks : (C : Calls 𝓤 H) (Λ : Loops 𝓤 H) → FmC 𝓤 H (W .laws) C → Triple 𝓤 (C #reader·after-at) AfterAt
+    walks : (C : Calls 𝓤 H) (Λ : Loops 𝓤 H) → FmC 𝓤 H (W .laws) C → Triple 𝓤 (C #fieldreader·after-at) AfterAt
         → Walks 𝓤 H A advance.ended stayed (WpFn 𝓤 H C Λ code.function) (advance.clauses 𝓤 H A mem run)
     walks C Λ fm known =
         walked 𝓤 H A advance.ended stayed (advance.clauses 𝓤 H A mem run) (WpFn 𝓤 H C Λ code.function)
         (λ κs. ((λ r. reader-value r ∷ []), tt)) (λ κs. (reader-tells κs, tt))
         (λ κs qs bounds a g are. via 𝓤 _ (fst∗ 𝓤 _ (emp 𝓤)) (walk (κs .0) (qs .0) (a .0) C Λ fm known (are .0)))
 
-    meets : (𝓣 : Tables 𝓤 H) → Triple 𝓤 (𝓣 .C #reader·after-at) AfterAt
+    meets : (𝓣 : Tables 𝓤 H) → Triple 𝓤 (𝓣 .C #fieldreader·after-at) AfterAt
         → Meets 𝓤 H A advance.signature (WpFn 𝓤 H (𝓣 .C) (𝓣 .Λ) code.function) (advance.spec 𝓤 H A mem run)
     meets 𝓣 known =
         walk-meets 𝓤 H A advance.ended stayed W (kept-goes 𝓤 H A W, tt) (advance.clauses 𝓤 H A mem run)
@@ -139,6 +139,6 @@ pub advance-spec : {M : Type 1} → stated.statement M
 unfolding code.routine tablesOf
 advance-spec 𝓤 H 𝓜 𝓖 𝓡 =
     entered 𝓤 H (tripleOf 𝓤 H (𝓖 .A) advance.signature (advance.spec 𝓤 H (𝓖 .A) (𝓜 .mem) (𝓡 .run)))
-    (tables 𝓤 H 𝓜 𝓡 code.env .C) (tables 𝓤 H 𝓜 𝓡 code.env .Λ) #reader·Reader·advance code.function (code.unfolded 𝓤 H 𝓜 𝓡)
+    (tables 𝓤 H 𝓜 𝓡 code.env .C) (tables 𝓤 H 𝓜 𝓡 code.env .Λ) #fieldreader·Reader·advance code.function (code.unfolded 𝓤 H 𝓜 𝓡)
     (meets 𝓤 H (𝓖 .A) (𝓜 .mem) (𝓡 .run) (givenOf 𝓤 H 𝓜 𝓖) (tablesOf 𝓤 H 𝓜 (tables 𝓤 H 𝓜 𝓡 code.env))
-    (cited 𝓤 H (AfterAt 𝓤 H (𝓖 .A) (𝓜 .mem) (𝓡 .run)) 𝓜 𝓡 code.env #reader·after-at after-at-symbol.routine code.calls-reader·after-at (after-at-met.met 𝓤 H 𝓜 𝓖 𝓡)))
+    (cited 𝓤 H (AfterAt 𝓤 H (𝓖 .A) (𝓜 .mem) (𝓡 .run)) 𝓜 𝓡 code.env #fieldreader·after-at after-at-symbol.routine code.calls-fieldreader·after-at (after-at-met.met 𝓤 H 𝓜 𝓖 𝓡)))
