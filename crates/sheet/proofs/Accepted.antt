@@ -1,4 +1,4 @@
--- Every accepted sheet is proper. What holds of the sheet so far is kept by each field, and the end field's rules add what is said of the whole.
+-- Every accepted sheet is proper: each field keeps what holds of the sheet so far, and the end field's rules add what is said of the whole.
 use Prim.Native.Nat.{ℕ, _+_, _-_, _≤_, _<_}
 use native.Mathlib.Omega.{arith}
 use native.Mathlib.Nat.{eq-zero-or-pos}

@@ -15,13 +15,13 @@ use Rattle.sheet.proofs.reader.field_at.Reads as field-at-reads
 use Rattle.sheet.proofs.modes.job_length.Kinds as job-length
 use Rattle.sheet.proofs.modes.job_length.Reads as job-length-reads
 
--- what a contract tells of a call's result is enough to know a value of it
+-- two results that a contract allows for the same arguments have the same value: `tells` is what the contract's `ensures` tells a caller
 abbrev pub Determines : {A : Type 0} (n : ℕ) (ps : List (PK n)) (r : RK n) → Out n ps r → ((κs : Lfts n) → resT r κs .Denot → A) → Type 0
 Determines n ps r tells value =
     (κs : Lfts n) (args : Dens κs ps) (x y : resT r κs .Denot) (s t : AtExit (endedOf n ps r) κs)
     → tells κs args x s → tells κs args y t → value κs x ≡ value κs y
 
--- a contract that says which value it is
+-- so does every contract that says which value it is
 pub one-value : {A : Type 0} (n : ℕ) (ps : List (PK n)) (r : RK n) (value : (κs : Lfts n) → resT r κs .Denot → A) (f : (κs : Lfts n) → Dens κs ps → A)
     → Determines n ps r (λ κs args x s. value κs x ≡ f κs args) value
 one-value n ps r value f κs args x y s t p q = p ∙ sym q

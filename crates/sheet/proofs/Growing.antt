@@ -5,8 +5,8 @@ use native.Mathlib.Nat.{eq-or-lt-of-le, le-refl}
 use mathlib.Core.Path.{_≡_}
 use mathlib.Core.Logic.{⊎-elim}
 use mathlib.Core.List.{List}
-use lib.ListN.{length, getD, set, replicate, length-set, length-replicate, List·getD-eq-default}
-use lib.Seq.{getD-set-same, getD-set-other}
+use lib.ListN.{length, getD, take, set, replicate, length-set, length-replicate, List·getD-eq-default}
+use lib.Seq.{length-take-le, getD-set-same, getD-set-other}
 use Rattle.walks.proofs.Tests.{lt-or}
 
 module _ {A : Type 0} (none : A) where
@@ -40,9 +40,12 @@ module _ {A : Type 0} (none : A) where
       }
 
   -- where what stands past the end has not F, all that counts stands in the array
-  pub each-within : (F : A → Type 0) (values : List A) (count : ℕ) → (F none → ⊥) → Each F values count → count ≤ length values
-  each-within F values count never each =
-      ⊎-elim (λ l. absurd (never (rw (List·getD-eq-default values none (le-refl (length values))) at (each (length values) l)))) (λ l. l) (lt-or (length values) count)
+  pub all-there : (F : A → Type 0) (values : List A) (count : ℕ) → (F none → ⊥) → Each F values count → length (take count values) ≡ count
+  all-there F values count never each =
+      ⊎-elim
+      (λ l. absurd (never (rw (List·getD-eq-default values none (le-refl (length values))) at (each (length values) l))))
+      (λ l. length-take-le count values l)
+      (lt-or (length values) count)
 
   module _ (values : List A) (count : ℕ) (a : A) (free : count < length values) where
     -- the values before stay, and the new one stands after them
@@ -52,7 +55,7 @@ module _ {A : Type 0} (none : A) where
     new : (k : ℕ) → k ≡ count → getD (set values count a) k none ≡ a
     new k e = rw e (getD-set-same values count a none free)
 
-    pub each-more : (F : A → Type 0) → F a → Each F values count → Each F (set values count a) (count + 1)
+    each-more : (F : A → Type 0) → F a → Each F values count → Each F (set values count a) (count + 1)
     each-more F one each k h =
         let l : k ≤ count = omega arith in
         ⊎-elim (λ e. rw (new k e) one) (λ b. rw (before k b) (each k b)) (eq-or-lt-of-le l)

@@ -1,4 +1,4 @@
--- What each field keeps holds of the whole file. A law about every judged file says what holds of the sheet so far at a place, and what then holds of the answer; it is proved of one field of each kind.
+-- What each field keeps holds of the whole file: a law about every judged file says what holds of the sheet so far and of the answer, and is proved of one field of each kind.
 use Prim.Native.Nat.{ℕ, zero, suc, _+_, _≤_, _<_}
 use native.Mathlib.Omega.{arith}
 use mathlib.Core.Path.{_≡_, refl}
@@ -71,6 +71,7 @@ module _ (bytes : List ℕ) (P : ℕ → Sheet → Type 0) (Q : Judged → Type 
   refused-after : (kind : Kind) (at start size next : ℕ) → fieldAt bytes at ≡ Field kind start size next → (n : ℕ) → OfFile n → Q (refusal n next)
   refused-after kind at start size next e n o = keeps .refused n next o (field-in bytes at kind start size next e .2)
 
+  -- the rules of each kind are tried in their order, and what the kind's line of `Keeps` asks for is then at hand
   field-keeps : (sheet : Sheet) (kind : Kind) (at start size next : ℕ) → fieldAt bytes at ≡ Field kind start size next → P at sheet
       → KeptOn (P next) Q (fieldJudged bytes sheet kind at start size next)
   unfolding fieldJudged labelJudged modeJudged rowJudged taskJudged endJudged goesOn acceptedAs refusedAt
@@ -99,6 +100,7 @@ module _ (bytes : List ℕ) (P : ℕ → Sheet → Type 0) (Q : Judged → Type 
       keeps .accepted sheet at start size next e p (own .0) (own .1 .0) (own .1 .1 .0) (omega (arith, field-in bytes at _ start size next e))))
   field-keeps sheet SkippedField at start size next e p = keeps .skipped sheet at start size next e p
 
+  -- what a field decides, or else the rest of the file
   either : (sheets : Sheet → Type 0) (over : Bool) (stands rest : Judged) → Decides sheets Q over stands → (sheets (stands .sheet) → Q rest) → Q (pick over stands rest)
   unfolding pick
   either sheets true stands rest k f = k

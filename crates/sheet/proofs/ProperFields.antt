@@ -24,7 +24,7 @@ module _ (bytes : List ℕ) (fit : Bytes bytes) where
   word-most at = omega (arith, fit at, fit (at + 1))
 
   -- a set of the file has no row from `rowLimit` on
-  long-narrow : (at : ℕ) → longAt bytes at < 2 ^ 32
+  long-narrow : (at : ℕ) → longAt bytes at < 2 ^ rowLimit
   long-narrow at = omega (arith, word-most at, word-most (at + 2))
 
   ticks-positive : (at : ℕ) → noTicks (ticksAt bytes at) ≡ false → Positive (ticksAt bytes at)

@@ -7,14 +7,13 @@ use mathlib.Core.Bool.{Bool, true, false}
 use mathlib.Core.List.{List, [], _∷_}
 use lib.Dec.{leb}
 use lib.ListN.{length, getD, take}
-use lib.Seq.{length-take-le, getD-take}
+use lib.Seq.{getD-take}
 use borrow.Author.Tests.{leb-false}
 use Rattle.sets.specs.Sets.{member}
 use Rattle.sets.proofs.Bits.{member-true}
 use Rattle.sets.proofs.Counts.{below-lt}
 use Rattle.walks.specs.Demand.{longestTime}
 use Rattle.walks.specs.Graph.{Sound}
-use Rattle.walks.specs.Fixed as fixed
 use Rattle.walks.proofs.Tests.{bool-or}
 use Rattle.sheet.specs.Deciding.{pick}
 use Rattle.sheet.specs.Meaning.{rowOf, lengthOf, gapOf, graphOf}
@@ -24,7 +23,7 @@ use Rattle.sheet.specs.declared.units.Rpm.{Rpm}
 use Rattle.sheet.specs.declared.units.Ticks.{Ticks}
 use Rattle.sheet.specs.declared.values.Mode.{Mode}
 use Rattle.sheet.specs.declared.values.Sheet.{Sheet}
-use Rattle.sheet.proofs.Growing.{each-within}
+use Rattle.sheet.proofs.Growing.{all-there}
 
 -- where a boundary is at or above the speed, the job length is that of one of the modes
 job-length-of : (F : Ticks → Type 0) (modes : List Mode) (speed : Rpm) → ((i : ℕ) → i < length modes → F (getD modes i noMode .length))
@@ -42,19 +41,18 @@ job-length-of F (mode ∷ modes) speed each k h l =
     first later false e (suc k) h l = later k (omega arith) l
 
 module _ (bytes : List ℕ) (sheet : Sheet) (proper : Proper bytes sheet) where
-  modes-within : sheet .tally .modes ≤ length (sheet .modes)
-  modes-within = each-within noMode ProperMode (sheet .modes) (sheet .tally .modes) (λ (p : ProperMode noMode). omega (arith, p .boundary)) (proper .each-mode)
-
   -- every row's speed has a mode, and so a length in range
   pub length-proper : (k : ℕ) → k < sheet .tally .rows → (1 ≤ lengthOf sheet k) × (lengthOf sheet k ≤ longestTime)
   length-proper k h =
-      let modes = take (sheet .tally .modes) (sheet .modes) in
-      let count : length modes ≡ sheet .tally .modes = length-take-le (sheet .tally .modes) (sheet .modes) modes-within in
-      job-length-of Positive modes (rowOf sheet k .speed)
-      (λ i l. let b : i < sheet .tally .modes = omega (arith, count) in rw (getD-take (sheet .tally .modes) (sheet .modes) i noMode b) (proper .each-mode i b .length))
-      (sheet .tally .modes - 1)
-      (omega (arith, count, proper .modes-some))
-      (rw (getD-take (sheet .tally .modes) (sheet .modes) (sheet .tally .modes - 1) noMode (omega (arith, proper .modes-some))) (proper .speeds-within k h))
+      let count = sheet .tally .modes in
+      let there : length (take count (sheet .modes)) ≡ count =
+      all-there noMode ProperMode (sheet .modes) count (λ (p : ProperMode noMode). omega (arith, p .boundary)) (proper .each-mode) in
+      let same = getD-take count (sheet .modes) in
+      job-length-of Positive (take count (sheet .modes)) (rowOf sheet k .speed)
+      (λ i l. let b : i < count = omega (arith, there) in rw (same i noMode b) (proper .each-mode i b .length))
+      (count - 1)
+      (omega (arith, there, proper .modes-some))
+      (rw (same (count - 1) noMode (omega (arith, proper .modes-some))) (proper .speeds-within k h))
 
   -- the gap to a row is 0 where it may not follow, and else no shorter than the deadline
   gap-proper : (k j : ℕ) → k < sheet .tally .rows

@@ -4,7 +4,7 @@ use native.Mathlib.Omega.{arith}
 use mathlib.Core.Path.{_≡_, _∙_, refl, ap}
 use mathlib.Core.List.{List, [], _∷_}
 use lib.ListN.{length, getD, take}
-use lib.Seq.{length-take-le, getD-take}
+use lib.Seq.{getD-take}
 use Rattle.walks.specs.Demand.{longestTime}
 use Rattle.walks.specs.Fixed as fixed
 use Rattle.walks.proofs.Bounds.{fixed-fits}
@@ -14,7 +14,7 @@ use Rattle.sheet.specs.Proper.{ProperTask, Proper}
 use Rattle.sheet.specs.Values.{noTask}
 use Rattle.sheet.specs.declared.values.Task.{Task}
 use Rattle.sheet.specs.declared.values.Sheet.{Sheet}
-use Rattle.sheet.proofs.Growing.{each-within}
+use Rattle.sheet.proofs.Growing.{all-there}
 
 each-length : (tasks : List Task) → length (eachTask tasks) ≡ length tasks
 unfolding eachTask
@@ -34,14 +34,12 @@ pub record ProperTimes (task : fixed.Task) : Type 0 where
   pub deadline : (1 ≤ task .deadline) × (task .deadline ≤ longestTime)
 
 module _ (bytes : List ℕ) (sheet : Sheet) (proper : Proper bytes sheet) where
-  counted : length (take (sheet .tally .tasks) (sheet .tasks)) ≡ sheet .tally .tasks
-  counted =
-      length-take-le (sheet .tally .tasks) (sheet .tasks)
-      (each-within noTask ProperTask (sheet .tasks) (sheet .tally .tasks) (λ (p : ProperTask noTask). omega (arith, p .length)) (proper .each-task))
+  there : length (take (sheet .tally .tasks) (sheet .tasks)) ≡ sheet .tally .tasks
+  there = all-there noTask ProperTask (sheet .tasks) (sheet .tally .tasks) (λ (p : ProperTask noTask). omega (arith, p .length)) (proper .each-task)
 
   pub tasks-count : length (tasksOf sheet) ≡ sheet .tally .tasks
   unfolding tasksOf
-  tasks-count = each-length (take (sheet .tally .tasks) (sheet .tasks)) ∙ counted
+  tasks-count = each-length (take (sheet .tally .tasks) (sheet .tasks)) ∙ there
 
   pub tasks-few : length (tasksOf sheet) ≤ taskLimit
   tasks-few = omega (arith, tasks-count, proper .tasks-most)
@@ -50,7 +48,7 @@ module _ (bytes : List ℕ) (sheet : Sheet) (proper : Proper bytes sheet) where
   pub task-of : (i : ℕ) (default : fixed.Task) → i < sheet .tally .tasks → getD (tasksOf sheet) i default ≡ timesOf (getD (sheet .tasks) i noTask)
   unfolding tasksOf
   task-of i default h =
-      each-at (take (sheet .tally .tasks) (sheet .tasks)) i default (omega (arith, counted))
+      each-at (take (sheet .tally .tasks) (sheet .tasks)) i default (omega (arith, there))
       ∙ ap timesOf (getD-take (sheet .tally .tasks) (sheet .tasks) i noTask h)
 
   pub tasks-proper : (i : ℕ) (default : fixed.Task) → i < length (tasksOf sheet) → ProperTimes (getD (tasksOf sheet) i default)

@@ -11,11 +11,11 @@ use Rattle.sheet.specs.declared.Judged.{Judged}
 use Rattle.sheet.proofs.Deciding.{OfFile}
 use Rattle.sheet.proofs.Keeping.{Keeps, judged-keeps}
 
--- what an answer has that refuses with a number and a place
-abbrev Rightly : List ℕ → Judged → Type 0
-Rightly bytes answer = (n place : ℕ) → answer .answer ≡ Refused n place → OfFile n × (place ≤ length bytes) × (answer .sheet ≡ emptySheet)
+-- where an answer refuses, its number and place are such, and it has no values
+abbrev RefusesRightly : List ℕ → Judged → Type 0
+RefusesRightly bytes answer = (n place : ℕ) → answer .answer ≡ Refused n place → OfFile n × (place ≤ length bytes) × (answer .sheet ≡ emptySheet)
 
-refused-keeps : (bytes : List ℕ) → Keeps bytes (λ _ _. Unit {0}) (Rightly bytes)
+refused-keeps : (bytes : List ℕ) → Keeps bytes (λ _ _. Unit {0}) (RefusesRightly bytes)
 unfolding refusal
 refused-keeps bytes =
     record {
@@ -34,7 +34,7 @@ refused-keeps bytes =
 
 module _ (bytes : List ℕ) (n place : ℕ) (refused : judged bytes .answer ≡ Refused n place) where
   rightly : OfFile n × (place ≤ length bytes) × (judged bytes .sheet ≡ emptySheet)
-  rightly = judged-keeps bytes (λ _ _. Unit {0}) (Rightly bytes) (refused-keeps bytes) n place refused
+  rightly = judged-keeps bytes (λ _ _. Unit {0}) (RefusesRightly bytes) (refused-keeps bytes) n place refused
 
   pub refused-number : OfFile n
   refused-number = rightly .0

@@ -1,0 +1,12 @@
+pub mod Followers
+pub mod Adding
+pub mod Lines
+pub mod NextCells
+pub mod Amounts
+pub mod Storing
+pub mod Releases
+pub mod Searches
+pub mod Leading
+pub mod Witnesses
+pub mod Steps
+pub mod Writing

@@ -1,0 +1,5 @@
+// The tables of cells, and what is read off them.
+pub mod amount;
+pub mod interval;
+pub mod tasks;
+pub mod witness;

@@ -1,0 +1,3 @@
+pub mod Beginnings
+pub mod Determined
+pub mod Agreement

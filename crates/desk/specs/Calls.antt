@@ -1,0 +1,144 @@
+-- What each call promises: the answer, every lent cell and every byte of the witness area, for any bytes and any numbers.
+use Prim.Native.Nat.{ℕ, _+_, _*_, _≤_, _<_}
+use mathlib.Core.Path.{_≡_}
+use mathlib.Core.Bool.{Bool, true, false}
+use mathlib.Core.List.{List, _++_}
+use lib.Dec.{ltb, eqb}
+use lib.ListN.{length, drop}
+use lib.IntN.{ℤ}
+use Rattle.walks.specs.Graph.{Graph}
+use Rattle.walks.specs.Demand.{longestTime, noTime, IsDemand, IsWitness, IsShortest}
+use Rattle.walks.specs.Cells.{ByInterval, ByAmount, Filled}
+use Rattle.walks.specs.Fixed.{Task}
+use Rattle.walks.specs.Verdict.{Verdict, holds, overrun, IsMargin, IsVerdict}
+use Rattle.sheet.specs.Deciding.{_or_}
+use Rattle.sheet.specs.Judging.{judged}
+use Rattle.sheet.specs.Meaning.{graphOf, tasksOf}
+use Rattle.sheet.specs.declared.Answer.{Answer}
+use Rattle.sheet.specs.declared.Answer.the-variants as sheet-case
+use Rattle.desk.specs.declared.DemandAnswer as demand
+use Rattle.desk.specs.declared.DemandAnswer.the-variants as demand-case
+use Rattle.desk.specs.declared.MarginAnswer as margin
+use Rattle.desk.specs.declared.MarginAnswer.the-variants as margin-case
+use Rattle.desk.specs.declared.ShortestAnswer as shortest
+use Rattle.desk.specs.declared.ShortestAnswer.the-variants as shortest-case
+use Rattle.desk.specs.declared.VerdictAnswer as verdict
+use Rattle.desk.specs.declared.VerdictAnswer.the-variants as verdict-case
+
+-- the graph and the fixed tasks of a sheet's bytes, and how many rows it has
+abbrev pub graph : List ℕ → Graph
+graph bytes = graphOf bytes (judged bytes .sheet)
+
+abbrev pub tasks : List ℕ → List Task
+tasks bytes = tasksOf (judged bytes .sheet)
+
+abbrev pub rows : List ℕ → ℕ
+rows bytes = judged bytes .sheet .tally .rows
+
+-- how every call begins: the sheet's own refusal, then 11 where the number asked for is out of range, then 12 where the cells are too few
+abbrev pub Begins : Answer → Bool → Bool → (ℕ → ℕ → Type 0) → Type 0 → Type 0
+Begins (sheet-case.Refused number place) outOfRange tooFew Refuses Answers = Refuses number place
+Begins sheet-case.Accepted true tooFew Refuses Answers = Refuses 11 0
+Begins sheet-case.Accepted false true Refuses Answers = Refuses 12 0
+Begins sheet-case.Accepted false false Refuses Answers = Answers
+
+-- one of two promises, by a test
+abbrev pub Either : Bool → Type 0 → Type 0 → Type 0
+Either true Then Else = Then
+Either false Then Else = Else
+
+-- how many cells a number of lines takes, one cell a row
+abbrev pub lines : List ℕ → ℕ → ℕ
+lines bytes count = rows bytes * count
+
+-- the first `count` lines of the table by interval are filled and nothing else has changed; likewise by amount
+abbrev pub FilledByInterval : List ℕ → ℕ → List ℕ → List ℕ → Type 0
+FilledByInterval bytes count old new = Filled (rows bytes) (ByInterval (graph bytes)) old new (lines bytes count)
+
+abbrev pub FilledByAmount : List ℕ → ℕ → List ℕ → List ℕ → Type 0
+FilledByAmount bytes count old new = Filled (rows bytes) (ByAmount (graph bytes)) old new (lines bytes count)
+
+-- a refused demand changes no lent cell or byte
+abbrev pub DemandRefuses : List ℕ → List ℕ → demand.DemandAnswer → List ℕ → List ℕ → ℕ → ℕ → Type 0
+DemandRefuses cells area answer cells′ area′ number place =
+    (answer ≡ demand-case.Refused number place) × (cells′ ≡ cells) × (area′ ≡ area)
+
+-- the amount and the witness as answered: the witness's rows stand at the front of the area, or it is 13 with the area untouched where they do not fit
+abbrev pub DemandGives : List ℕ → demand.DemandAnswer → List ℕ → ℕ → List ℕ → Type 0
+DemandGives area answer area′ amount witness =
+    Either (ltb (length area) (length witness))
+    ((answer ≡ demand-case.Refused 13 0) × (area′ ≡ area))
+    ((answer ≡ demand-case.Found amount (length witness)) × (area′ ≡ witness ++ drop (length witness) area))
+
+-- demand at t
+abbrev pub DemandAnswers : List ℕ → ℕ → List ℕ → List ℕ → demand.DemandAnswer → List ℕ → List ℕ → Type 0
+DemandAnswers bytes t cells area answer cells′ area′ =
+    FilledByInterval bytes (t + 1) cells cells′
+    × ((amount : ℕ) × (witness : List ℕ) × IsDemand (graph bytes) t amount × IsWitness (graph bytes) t witness
+    × DemandGives area answer area′ amount witness)
+
+abbrev pub DemandCall : List ℕ → ℕ → List ℕ → List ℕ → demand.DemandAnswer → List ℕ → List ℕ → Type 0
+DemandCall bytes t cells area answer cells′ area′ =
+    Begins (judged bytes .answer) (ltb longestTime t) (ltb (length cells) (lines bytes (t + 1)))
+    (DemandRefuses cells area answer cells′ area′) (DemandAnswers bytes t cells area answer cells′ area′)
+
+abbrev pub MarginRefuses : List ℕ → margin.MarginAnswer → List ℕ → ℕ → ℕ → Type 0
+MarginRefuses cells answer cells′ number place = (answer ≡ margin-case.Refused number place) × (cells′ ≡ cells)
+
+-- margin at t
+abbrev pub MarginAnswers : List ℕ → ℕ → List ℕ → margin.MarginAnswer → List ℕ → Type 0
+MarginAnswers bytes t cells answer cells′ =
+    FilledByInterval bytes (t + 1) cells cells′
+    × ((m : ℤ) × IsMargin (graph bytes) (tasks bytes) t m × (answer ≡ margin-case.Found m))
+
+abbrev pub MarginCall : List ℕ → ℕ → List ℕ → margin.MarginAnswer → List ℕ → Type 0
+MarginCall bytes t cells answer cells′ =
+    Begins (judged bytes .answer) (ltb longestTime t) (ltb (length cells) (lines bytes (t + 1)))
+    (MarginRefuses cells answer cells′) (MarginAnswers bytes t cells answer cells′)
+
+-- an amount that is asked for is from 1 to one more than the longest time
+abbrev pub badAmount : ℕ → Bool
+badAmount b = eqb b 0 or ltb (longestTime + 1) b
+
+abbrev pub ShortestRefuses : List ℕ → shortest.ShortestAnswer → List ℕ → ℕ → ℕ → Type 0
+ShortestRefuses cells answer cells′ number place = (answer ≡ shortest-case.Refused number place) × (cells′ ≡ cells)
+
+-- the time as answered, or 14 where no sequence reaches the amount
+abbrev pub ShortestGives : shortest.ShortestAnswer → ℕ → Type 0
+ShortestGives answer time = Either (eqb time noTime) (answer ≡ shortest-case.Refused 14 0) (answer ≡ shortest-case.Found time)
+
+-- the shortest interval for b
+abbrev pub ShortestAnswers : List ℕ → ℕ → List ℕ → shortest.ShortestAnswer → List ℕ → Type 0
+ShortestAnswers bytes b cells answer cells′ =
+    FilledByAmount bytes b cells cells′
+    × ((time : ℕ) × IsShortest (graph bytes) b time × ShortestGives answer time)
+
+abbrev pub ShortestCall : List ℕ → ℕ → List ℕ → shortest.ShortestAnswer → List ℕ → Type 0
+ShortestCall bytes b cells answer cells′ =
+    Begins (judged bytes .answer) (badAmount b) (ltb (length cells) (lines bytes b))
+    (ShortestRefuses cells answer cells′) (ShortestAnswers bytes b cells answer cells′)
+
+-- a verdict as an answer
+abbrev pub verdictAnswer : Verdict → verdict.VerdictAnswer
+verdictAnswer holds = verdict-case.Holds
+verdictAnswer (overrun t) = verdict-case.Overrun t
+
+abbrev pub VerdictRefuses : List ℕ → verdict.VerdictAnswer → List ℕ → ℕ → ℕ → Type 0
+VerdictRefuses cells answer cells′ number place = (answer ≡ verdict-case.Refused number place) × (cells′ ≡ cells)
+
+-- the verdict up to a horizon; `FilledBy` says which table the cells then hold, all of it, also where an early interval is overrun
+abbrev pub VerdictAnswers : (List ℕ → ℕ → List ℕ → List ℕ → Type 0) → List ℕ → ℕ → List ℕ → verdict.VerdictAnswer → List ℕ → Type 0
+VerdictAnswers FilledBy bytes horizon cells answer cells′ =
+    FilledBy bytes (horizon + 1) cells cells′
+    × ((v : Verdict) × IsVerdict (graph bytes) (tasks bytes) horizon v × (answer ≡ verdictAnswer v))
+
+abbrev pub VerdictCall : (List ℕ → ℕ → List ℕ → List ℕ → Type 0) → List ℕ → ℕ → List ℕ → verdict.VerdictAnswer → List ℕ → Type 0
+VerdictCall FilledBy bytes horizon cells answer cells′ =
+    Begins (judged bytes .answer) (ltb longestTime horizon) (ltb (length cells) (lines bytes (horizon + 1)))
+    (VerdictRefuses cells answer cells′) (VerdictAnswers FilledBy bytes horizon cells answer cells′)
+
+abbrev pub VerdictByIntervalCall : List ℕ → ℕ → List ℕ → verdict.VerdictAnswer → List ℕ → Type 0
+VerdictByIntervalCall = VerdictCall FilledByInterval
+
+abbrev pub VerdictByAmountCall : List ℕ → ℕ → List ℕ → verdict.VerdictAnswer → List ℕ → Type 0
+VerdictByAmountCall = VerdictCall FilledByAmount

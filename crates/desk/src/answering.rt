@@ -1,0 +1,61 @@
+// What each call does once its sheet is accepted, its number is in range and its room is enough.
+use crate::DemandAnswer;
+use crate::MarginAnswer;
+use crate::ShortestAnswer;
+use crate::VerdictAnswer;
+use cells::amount::NO_TIME;
+use cells::amount::fill_by_amount;
+use cells::amount::shortest_of;
+use cells::interval::demand_of;
+use cells::interval::fill_by_interval;
+use cells::tasks::fixed_sum;
+use sheet::values::Sheet;
+ghost use mathlib.Core.Path.{_≡_};
+ghost use Prim.Native.Nat.{_+_, _^_, _≤_, _<_};
+ghost use lib.IntN.{pos, _-ℤ_};
+ghost use lib.ListN.{length};
+ghost use Rattle.walks.specs.Demand.{longestTime};
+ghost use Rattle.sheet.specs.Judging.{judged};
+ghost use Rattle.cells.specs.Ready.{Ready};
+ghost use Rattle.desk.specs.Calls.{lines, MarginAnswers, ShortestAnswers};
+
+// The table by interval, then what both demands leave of the interval.
+pub(crate) fn margin_in(bytes: &[u8], sheet: Sheet, t: usize, cells: &mut [u32]) -> MarginAnswer
+    requires { ⌜ Ready (now bytes) sheet ⌝ }
+    requires { ⌜ sheet ≡ judged (now bytes) .sheet ⌝ }
+    requires { ⌜ t ≤ longestTime ⌝ }
+    requires { ⌜ lines (now bytes) (t + 1) ≤ length (now cells) ⌝ }
+    ensures { λ r. ⌜ MarginAnswers (now (bytes .entry)) t (now (cells .entry)) r (now (cells .exit)) ⌝ }
+{
+    fill_by_interval(bytes, sheet, cells, t);
+    let tally = sheet.tally;
+    let amount = demand_of(cells, tally.rows, t) as u64;
+    let fixed = fixed_sum(sheet, t);
+    let margin = less(t as u64, amount + fixed);
+    MarginAnswer::Found { margin: margin }
+}
+
+// The table by amount, then the smallest time of its last line.
+pub(crate) fn shortest_in(bytes: &[u8], sheet: Sheet, amount: usize, cells: &mut [u32]) -> ShortestAnswer
+    requires { ⌜ Ready (now bytes) sheet ⌝ }
+    requires { ⌜ sheet ≡ judged (now bytes) .sheet ⌝ }
+    requires { ⌜ 1 ≤ amount ⌝ }
+    requires { ⌜ lines (now bytes) amount ≤ length (now cells) ⌝ }
+    ensures { λ r. ⌜ ShortestAnswers (now (bytes .entry)) amount (now (cells .entry)) r (now (cells .exit)) ⌝ }
+{
+    fill_by_amount(bytes, sheet, cells, amount);
+    let tally = sheet.tally;
+    let time = shortest_of(cells, tally.rows, amount);
+    if time == NO_TIME {
+        return ShortestAnswer::Refused { number: 14, place: 0 };
+    }
+    ShortestAnswer::Found { time: time }
+}
+
+// A difference with its sign.
+fn less(first: u64, second: u64) -> i64
+    requires { ⌜ (first < 2 ^ 63) × (second < 2 ^ 63) ⌝ }
+    ensures { λ r. ⌜ r ≡ pos first -ℤ pos second ⌝ }
+{
+    first as i64 - second as i64
+}
