@@ -1,9 +1,17 @@
-// The program: reads a sheet from standard input and prints where the engine's demand rises, and the verdict up to the horizon that fits its cells.
+// The program: reads a sheet from standard input and prints where the engine's demand rises, and the verdict, up to the horizon that fits its cells.
+mod steps;
+
+use cells::interval::demand_of;
 use desk::VerdictAnswer;
 use libc::STDIN_FILENO;
 use libc::STDOUT_FILENO;
 use sheet::Answer;
-use sheet::values::Sheet;
+use steps::horizon_of;
+use steps::next_rise;
+ghost use Prim.Native.Nat.{_+_, _*_, _≤_};
+ghost use lib.ListN.{length};
+ghost use Rattle.walks.specs.Demand.{longestTime};
+ghost use Rattle.sheet.specs.Limits.{rowLimit};
 
 // The longest sheet that is read, and the cells to work in.
 const LONGEST: usize = 8192;
@@ -35,7 +43,10 @@ fn print_sheet(bytes: &[u8]) {
 }
 
 // One table of cells serves the verdict and the steps.
-fn print_accepted(bytes: &[u8], rows: usize) {
+fn print_accepted(bytes: &[u8], rows: usize)
+    requires { ⌜ 1 ≤ rows ⌝ }
+    requires { ⌜ rows ≤ rowLimit ⌝ }
+{
     let mut cells = [0u32; CELLS];
     let horizon = horizon_of(CELLS, rows);
     let verdict = desk::verdict_by_interval(bytes, horizon as u64, &mut cells);
@@ -48,10 +59,13 @@ fn print_accepted(bytes: &[u8], rows: usize) {
     print_verdict(verdict);
 }
 
-fn print_steps(cells: &[u32], rows: usize, horizon: usize) {
+fn print_steps(cells: &[u32], rows: usize, horizon: usize)
+    requires { ⌜ horizon ≤ longestTime ⌝ }
+    requires { ⌜ rows * (horizon + 1) ≤ length (now cells) ⌝ }
+{
     let mut interval = next_rise(cells, rows, horizon, 1);
     while interval <= horizon {
-        print_step(interval, line_demand(cells, rows, interval));
+        print_step(interval, demand_of(cells, rows, interval));
         interval = next_rise(cells, rows, horizon, interval + 1);
     }
 }
@@ -86,38 +100,4 @@ fn print_refusal(number: u8, place: usize) {
     io::write_all(STDOUT_FILENO, b" at ");
     io::print_decimal(STDOUT_FILENO, place as u64);
     io::write_all(STDOUT_FILENO, b"\n");
-}
-
-// The largest horizon, up to the longest time, whose table fits the cells.
-fn horizon_of(cells: usize, rows: usize) -> usize {
-    let fits = cells / rows - 1;
-    let longest = Sheet::TICKS as usize;
-    if fits < longest { fits } else { longest }
-}
-
-// The first interval from a place on at which the demand is above that of the interval before, one past the horizon where there is none.
-fn next_rise(cells: &[u32], rows: usize, horizon: usize, from: usize) -> usize {
-    let mut interval = from;
-    while interval <= horizon {
-        if line_demand(cells, rows, interval - 1) < line_demand(cells, rows, interval) {
-            return interval;
-        }
-        interval += 1;
-    }
-    interval
-}
-
-// The demand at an interval: the largest cell of its line.
-fn line_demand(cells: &[u32], rows: usize, interval: usize) -> u32 {
-    let line = interval * rows;
-    let mut most: u32 = 0;
-    let mut row: usize = 0;
-    while row < rows {
-        let cell = cells[line + row];
-        if most < cell {
-            most = cell;
-        }
-        row += 1;
-    }
-    most
 }
