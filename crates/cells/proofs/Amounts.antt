@@ -7,18 +7,20 @@ use native.Mathlib.Omega.{arith}
 use Rattle.sets.specs.Sets.{bit}
 use Rattle.sets.proofs.Bits.{bit-or, bit-zero-past}
 use Rattle.sets.proofs.Folds.{fold-as-min}
+use Rattle.walks.specs.Graph.{Graph}
 use Rattle.walks.specs.Cells.{ByAmount, Filled}
 use Rattle.walks.specs.Computed.{cellAt, cellFor, minBelow, timeOrNone, viaLeastAt, leastAt}
-use Rattle.walks.specs.Demand.{noTime}
+use Rattle.walks.specs.Demand.{noTime, IsShortest}
 use Rattle.walks.proofs.Tests.{le-or}
 use Rattle.walks.proofs.Folds.{min-skip}
-use Rattle.walks.proofs.ByAmount.{via-least-is, via-least-none}
+use Rattle.walks.proofs.ByAmount.{via-least-is, via-least-none, shortest-is}
 use Rattle.walks.proofs.Filling.{next-by-amount}
 use Rattle.sheet.specs.Meaning.{rowOf, lengthOf, gapOf, graphOf}
 use Rattle.sheet.specs.Proper.{ProperRow}
 use Rattle.sheet.specs.declared.values.Row.{Row}
 use Rattle.sheet.specs.declared.values.Sheet.{Sheet}
 use Rattle.cells.specs.Followers.{gapTo}
+use Rattle.cells.specs.Lines.{HasLines}
 use Rattle.cells.specs.Ready.{Ready}
 use Rattle.cells.specs.Amounts.{soonestVia}
 use Rattle.cells.proofs.Followers.{gap-of-follower, gap-of-other, gap-positive}
@@ -78,3 +80,10 @@ module _ (bytes : List ℕ) (sheet : Sheet) (ready : Ready bytes sheet) (k : ℕ
       → Filled (sheet .tally .rows) (ByAmount (graphOf bytes sheet)) old cells (line * sheet .tally .rows + k) → ByAmount (graphOf bytes sheet) line k time
   unfolding graphOf
   next-time old cells line work time same is filled = rw (is, same) (next-by-amount (graphOf bytes sheet) (ready .sound) old cells line k hk filled)
+
+-- the shortest interval for an amount is the smallest cell of its line
+pub line-shortest : (g : Graph) (cells : List ℕ) (lines : ℕ) → HasLines (g .rows) (ByAmount g) cells lines → (amount : ℕ) → 1 ≤ amount → amount ≤ lines
+    → IsShortest g amount (minBelow (g .rows) noTime (cellFor (g .rows) cells amount))
+line-shortest g cells lines table amount some most =
+    let same : amount - 1 + 1 ≡ amount = omega arith in
+    shortest-is g amount (cellFor (g .rows) cells amount) (λ k h. rw same at (table .right (amount - 1) k (omega arith) h))

@@ -5,6 +5,7 @@ pub mod NextCells
 pub mod Amounts
 pub mod Storing
 pub mod Releases
+pub mod Sweeping
 pub mod Searches
 pub mod Leading
 pub mod Witnesses

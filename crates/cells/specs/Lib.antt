@@ -1,7 +1,8 @@
 pub mod Ready
 pub mod Followers
 pub mod Adding
+pub mod Lines
 pub mod Amounts
 pub mod Releases
-pub mod Lines
+pub mod Sweeping
 pub mod Stands

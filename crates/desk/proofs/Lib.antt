@@ -1,3 +1,4 @@
 pub mod Beginnings
 pub mod Determined
 pub mod Agreement
+pub mod Telling

@@ -8,7 +8,12 @@ use cells::amount::fill_by_amount;
 use cells::amount::shortest_of;
 use cells::interval::demand_of;
 use cells::interval::fill_by_interval;
+use cells::sweep::Swept;
+use cells::sweep::sweep_by_amount;
+use cells::sweep::sweep_by_interval;
 use cells::tasks::fixed_sum;
+use cells::witness::witness_count;
+use cells::witness::write_witness;
 use sheet::values::Sheet;
 ghost use mathlib.Core.Path.{_≡_};
 ghost use Prim.Native.Nat.{_+_, _^_, _≤_, _<_};
@@ -17,7 +22,27 @@ ghost use lib.ListN.{length};
 ghost use Rattle.walks.specs.Demand.{longestTime};
 ghost use Rattle.sheet.specs.Judging.{judged};
 ghost use Rattle.cells.specs.Ready.{Ready};
-ghost use Rattle.desk.specs.Calls.{lines, MarginAnswers, ShortestAnswers};
+ghost use Rattle.cells.specs.Sweeping.{verdictOf};
+ghost use Rattle.desk.specs.Calls.{lines, DemandAnswers, MarginAnswers, ShortestAnswers, VerdictAnswers, FilledByInterval, FilledByAmount, verdictAnswer};
+
+// The table by interval, then the largest cell of its last line and the witness, which is counted before it is written.
+pub(crate) fn demand_in(bytes: &[u8], sheet: Sheet, t: usize, cells: &mut [u32], area: &mut [u8]) -> DemandAnswer
+    requires { ⌜ Ready (now bytes) sheet ⌝ }
+    requires { ⌜ sheet ≡ judged (now bytes) .sheet ⌝ }
+    requires { ⌜ t ≤ longestTime ⌝ }
+    requires { ⌜ lines (now bytes) (t + 1) ≤ length (now cells) ⌝ }
+    ensures { λ r. ⌜ DemandAnswers (now (bytes .entry)) t (now (cells .entry)) (now (area .entry)) r (now (cells .exit)) (now (area .exit)) ⌝ }
+{
+    fill_by_interval(bytes, sheet, cells, t);
+    let tally = sheet.tally;
+    let amount = demand_of(cells, tally.rows, t);
+    let count = witness_count(bytes, sheet, cells, t);
+    if area.len() < count {
+        return DemandAnswer::Refused { number: 13, place: 0 };
+    }
+    write_witness(bytes, sheet, cells, t, area);
+    DemandAnswer::Found { amount: amount, count: count }
+}
 
 // The table by interval, then what both demands leave of the interval.
 pub(crate) fn margin_in(bytes: &[u8], sheet: Sheet, t: usize, cells: &mut [u32]) -> MarginAnswer
@@ -50,6 +75,41 @@ pub(crate) fn shortest_in(bytes: &[u8], sheet: Sheet, amount: usize, cells: &mut
         return ShortestAnswer::Refused { number: 14, place: 0 };
     }
     ShortestAnswer::Found { time: time }
+}
+
+// The table by interval, all of it, then the first interval that it shows to be overrun.
+pub(crate) fn verdict_by_interval_in(bytes: &[u8], sheet: Sheet, horizon: usize, cells: &mut [u32]) -> VerdictAnswer
+    requires { ⌜ Ready (now bytes) sheet ⌝ }
+    requires { ⌜ sheet ≡ judged (now bytes) .sheet ⌝ }
+    requires { ⌜ horizon ≤ longestTime ⌝ }
+    requires { ⌜ lines (now bytes) (horizon + 1) ≤ length (now cells) ⌝ }
+    ensures { λ r. ⌜ VerdictAnswers FilledByInterval (now (bytes .entry)) horizon (now (cells .entry)) r (now (cells .exit)) ⌝ }
+{
+    fill_by_interval(bytes, sheet, cells, horizon);
+    let swept = sweep_by_interval(sheet, cells, horizon);
+    as_answer(swept)
+}
+
+// The table by amount, all of it, then the first interval that it shows to be overrun.
+pub(crate) fn verdict_by_amount_in(bytes: &[u8], sheet: Sheet, horizon: usize, cells: &mut [u32]) -> VerdictAnswer
+    requires { ⌜ Ready (now bytes) sheet ⌝ }
+    requires { ⌜ sheet ≡ judged (now bytes) .sheet ⌝ }
+    requires { ⌜ horizon ≤ longestTime ⌝ }
+    requires { ⌜ lines (now bytes) (horizon + 1) ≤ length (now cells) ⌝ }
+    ensures { λ r. ⌜ VerdictAnswers FilledByAmount (now (bytes .entry)) horizon (now (cells .entry)) r (now (cells .exit)) ⌝ }
+{
+    fill_by_amount(bytes, sheet, cells, horizon + 1);
+    let swept = sweep_by_amount(sheet, cells, horizon);
+    as_answer(swept)
+}
+
+fn as_answer(swept: Swept) -> VerdictAnswer
+    ensures { λ r. ⌜ r ≡ verdictAnswer (verdictOf swept) ⌝ }
+{
+    match swept {
+        Swept::Holds => VerdictAnswer::Holds,
+        Swept::Overrun(t) => VerdictAnswer::Overrun { interval: t as u64 },
+    }
 }
 
 // A difference with its sign.

@@ -1,6 +1,15 @@
 // The public calls: each takes the sheet's bytes, reads them itself, works in lent memory and answers for any bytes and any numbers.
 mod answering;
 mod beginning;
+use answering::demand_in;
+use answering::margin_in;
+use answering::shortest_in;
+use answering::verdict_by_amount_in;
+use answering::verdict_by_interval_in;
+use beginning::begin_amount;
+use beginning::begin_interval;
+use sheet::Answer;
+ghost use Rattle.desk.specs.Calls.{DemandCall, MarginCall, ShortestCall, VerdictByIntervalCall, VerdictByAmountCall};
 
 // The demand at an interval, and how many rows its witness has.
 pub enum DemandAnswer {
@@ -48,3 +57,87 @@ pub enum VerdictAnswer {
     },
 }
 
+// The demand at an interval. Its witness goes to the area, one row number a byte.
+pub fn demand(bytes: &[u8], interval: u64, cells: &mut [u32], area: &mut [u8]) -> DemandAnswer
+    ensures { λ r. ⌜ DemandCall (now (bytes .entry)) interval (now (cells .entry)) (now (area .entry)) r (now (cells .exit)) (now (area .exit)) ⌝ }
+{
+    let begun = begin_interval(bytes, interval, cells.len());
+    let answer = begun.answer;
+    let sheet = begun.sheet;
+    match answer {
+        Answer::Refused { number, place } => {
+            DemandAnswer::Refused { number: number, place: place }
+        }
+        Answer::Accepted => {
+            demand_in(bytes, sheet, interval as usize, cells, area)
+        }
+    }
+}
+
+// The margin at an interval.
+pub fn margin(bytes: &[u8], interval: u64, cells: &mut [u32]) -> MarginAnswer
+    ensures { λ r. ⌜ MarginCall (now (bytes .entry)) interval (now (cells .entry)) r (now (cells .exit)) ⌝ }
+{
+    let begun = begin_interval(bytes, interval, cells.len());
+    let answer = begun.answer;
+    let sheet = begun.sheet;
+    match answer {
+        Answer::Refused { number, place } => {
+            MarginAnswer::Refused { number: number, place: place }
+        }
+        Answer::Accepted => {
+            margin_in(bytes, sheet, interval as usize, cells)
+        }
+    }
+}
+
+// The verdict up to a horizon from the table by interval.
+pub fn verdict_by_interval(bytes: &[u8], horizon: u64, cells: &mut [u32]) -> VerdictAnswer
+    ensures { λ r. ⌜ VerdictByIntervalCall (now (bytes .entry)) horizon (now (cells .entry)) r (now (cells .exit)) ⌝ }
+{
+    let begun = begin_interval(bytes, horizon, cells.len());
+    let answer = begun.answer;
+    let sheet = begun.sheet;
+    match answer {
+        Answer::Refused { number, place } => {
+            VerdictAnswer::Refused { number: number, place: place }
+        }
+        Answer::Accepted => {
+            verdict_by_interval_in(bytes, sheet, horizon as usize, cells)
+        }
+    }
+}
+
+// The shortest interval for an amount.
+pub fn shortest(bytes: &[u8], amount: u64, cells: &mut [u32]) -> ShortestAnswer
+    ensures { λ r. ⌜ ShortestCall (now (bytes .entry)) amount (now (cells .entry)) r (now (cells .exit)) ⌝ }
+{
+    let begun = begin_amount(bytes, amount, cells.len());
+    let answer = begun.answer;
+    let sheet = begun.sheet;
+    match answer {
+        Answer::Refused { number, place } => {
+            ShortestAnswer::Refused { number: number, place: place }
+        }
+        Answer::Accepted => {
+            shortest_in(bytes, sheet, amount as usize, cells)
+        }
+    }
+}
+
+// The verdict up to a horizon from the table by amount.
+pub fn verdict_by_amount(bytes: &[u8], horizon: u64, cells: &mut [u32]) -> VerdictAnswer
+    ensures { λ r. ⌜ VerdictByAmountCall (now (bytes .entry)) horizon (now (cells .entry)) r (now (cells .exit)) ⌝ }
+{
+    let begun = begin_interval(bytes, horizon, cells.len());
+    let answer = begun.answer;
+    let sheet = begun.sheet;
+    match answer {
+        Answer::Refused { number, place } => {
+            VerdictAnswer::Refused { number: number, place: place }
+        }
+        Answer::Accepted => {
+            verdict_by_amount_in(bytes, sheet, horizon as usize, cells)
+        }
+    }
+}

@@ -1,44 +1,66 @@
-use borrow.Author.Needs.{needs}
+-- `margin_in` meets its contract: what it reads off the filled lines is the demand, and the two demands together fit well.
+use Prim.Native.Nat.{_^_, ℕ, _+_, _<_}
+use Rattle.cells.specs.Lines.{HasLines}
+use Rattle.desk.proofs.Telling.{room-told, lines-told, margin-told, difference-kept}
 use Rattle.desk.proofs.answering.margin_in.Statement.{statement}
+use Rattle.desk.specs.Calls.{lines}
+use Rattle.sheet.proofs.ProperTasks.{tasks-fit}
+use Rattle.sheet.specs.Deciding.{_or_}
+use Rattle.sheet.specs.Meaning.{graphOf}
+use Rattle.walks.specs.Cells.{ByInterval}
+use borrow.Author.Needs.{needs}
+use denote.Ref.{now}
+use lib.IntN.{ℤ}
+use mathlib.Core.Path.{_∙_, sym, ap, subst}
+use mir.Syntax.{w64}
+use mir.Val.{toZ, ofZ}
+use native.Mathlib.Omega.{arith}
 use Rattle.desk.proofs.answering.margin_in.Tie as tie
-use Rattle.desk.proofs.answering.margin_in.Reads as reads
-use Rattle.desk.proofs.answering.margin_in.Lts as lts
-use Rattle.cells.proofs.interval.demand_of.Reads as demand-of-reads
-use Rattle.cells.proofs.interval.fill_by_interval.Reads as fill-by-interval-reads
-use Rattle.cells.proofs.tasks.fixed_sum.Reads as fixed-sum-reads
-use Rattle.desk.proofs.answering.less.Reads as less-reads
 
--- src/answering.rt:30:5
 fill-by-interval-requires : tie.Need-fill-by-interval-requires
-fill-by-interval-requires c κs = ?
+fill-by-interval-requires c κs =
+    let s = c .before .before .before in
+    (s .pre .0, (s .pre .1 .1 .0, room-told _ _ (s .pre .1 .0) (s .pre .0) (s .args .t + 1) (now (s .args .cells)) (s .pre .1 .1 .1)))
 
--- src/answering.rt:32:18
+-- the filled lines
+table : (c : tie.After-fill-by-interval) →
+    let a = c .before .before .before .before .args in
+    HasLines (a .sheet .tally .rows) (ByInterval (graphOf (now (a .bytes)) (a .sheet))) (c .fill-by-interval .last .1 .1 .0) (a .t + 1)
+table c =
+    let s = c .before .before .before .before in
+    lines-told _ _ (s .pre .1 .0) (s .pre .0) _ _ _ (room-told _ _ (s .pre .1 .0) (s .pre .0) (s .args .t + 1) (now (s .args .cells)) (s .pre .1 .1 .1)) (c .fill-by-interval .ensures)
+
 demand-of-requires : tie.Need-demand-of-requires
-demand-of-requires c κs = ?
+demand-of-requires c κs = table (c .before .before .before .before) .room
 
--- src/answering.rt:32:18
 cast-amount : tie.Need-cast-amount
 cast-amount c = search needs
 
--- src/answering.rt:33:9
 fixed-sum-requires : tie.Need-fixed-sum-requires
-fixed-sum-requires c κs = search needs
+fixed-sum-requires c κs = ((_, c .before .before .before .before .before .before .before .before .before .pre .0 .proper), c .before .before .before .before .before .before .before .before .before .pre .1 .1 .0)
 
--- src/answering.rt:34:33
+-- fixed demand is small
+sum-fits : (c : tie.After-fixed-sum) → c .fixed-sum .result < 2 ^ 48
+sum-fits c =
+    let s = c .before .before .before .before .before .before .before .before .before .before in
+    subst (λ (x : ℕ). x < 2 ^ 48) (sym (c .fixed-sum .ensures)) (tasks-fit _ _ (s .pre .0 .proper) _ (s .pre .1 .1 .0))
+
 add-less : tie.Need-add-less
-add-less c = ?
+add-less c = omega (arith, sum-fits c)
 
--- src/answering.rt:34:9
 less-requires : tie.Need-less-requires
-less-requires c κs = ?
+less-requires c κs = (omega arith, omega (arith, sum-fits c))
 
--- src/answering.rt:23:1
 same-length : tie.Need-same-length
 same-length c = search needs
 
--- src/answering.rt:23:1
 returns : tie.Need-returns
-returns c = ?
+returns c =
+    let s = c .before .before .before .before .before .before .before .before .before .before .before in
+    let small : s .args .t < 2 ^ 63 = omega arith in
+    let sum : c .before .before .demand-of .result + c .before .fixed-sum .result < 2 ^ 63 = omega (arith, sum-fits (c .before)) in
+    margin-told _ _ (s .pre .1 .0) (s .pre .0) _ _ _ (room-told _ _ (s .pre .1 .0) (s .pre .0) (s .args .t + 1) (now (s .args .cells)) (s .pre .1 .1 .1)) (c .before .before .before .before .before .before .before .fill-by-interval .ensures)
+    _ _ _ (c .before .before .demand-of .ensures) (c .before .fixed-sum .ensures) (ap (λ (z : ℤ). toZ w64 (ofZ w64 z)) (c .less .ensures) ∙ difference-kept _ _ small sum)
 
 pub margin-in-spec : {M : Type 1} → statement M
 margin-in-spec =

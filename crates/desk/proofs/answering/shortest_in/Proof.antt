@@ -1,34 +1,41 @@
-use borrow.Author.Needs.{needs}
+-- `shortest_in` meets its contract: what it reads off the last filled line is the shortest interval, and no time is 14.
+use Prim.Native.Nat.{ℕ, _*_, _≤_}
+use Rattle.desk.proofs.Telling.{room-told, shortest-answers, gives-none, gives-time}
 use Rattle.desk.proofs.answering.shortest_in.Statement.{statement}
+use Rattle.sheet.specs.Deciding.{_or_}
+use borrow.Author.Needs.{needs}
+use denote.Ref.{now}
+use mathlib.Core.Path.{sym, subst}
 use Rattle.desk.proofs.answering.shortest_in.Tie as tie
-use Rattle.desk.proofs.answering.shortest_in.Reads as reads
-use Rattle.desk.proofs.answering.shortest_in.Lts as lts
-use Rattle.cells.proofs.amount.fill_by_amount.Reads as fill-by-amount-reads
-use Rattle.cells.proofs.amount.shortest_of.Reads as shortest-of-reads
 
--- src/answering.rt:46:5
 fill-by-amount-requires : tie.Need-fill-by-amount-requires
-fill-by-amount-requires c κs = ?
+fill-by-amount-requires c κs =
+    let s = c .before .before .before in
+    (s .pre .0, room-told _ _ (s .pre .1 .0) (s .pre .0) (s .args .amount) (now (s .args .cells)) (s .pre .1 .1 .1))
 
--- src/answering.rt:48:9
 shortest-of-requires : tie.Need-shortest-of-requires
-shortest-of-requires c κs = ?
+shortest-of-requires c κs =
+    let s = c .before .before .before .before .before .before .before .before in
+    (s .pre .1 .1 .0, subst (λ (x : ℕ). s .args .sheet .tally .rows * s .args .amount ≤ x) (sym (c .before .before .before .before .fill-by-amount .ensures .same-length))
+    (room-told _ _ (s .pre .1 .0) (s .pre .0) (s .args .amount) (now (s .args .cells)) (s .pre .1 .1 .1)))
 
--- src/answering.rt:50:9
 same-length : tie.Need-same-length
 same-length c = search needs
 
--- src/answering.rt:50:9
 returns : tie.Need-returns
-returns c = ?
+returns c =
+    let s = c .before .before .before .before .before .before .before .before .before .before in
+    shortest-answers _ _ (s .pre .1 .0) (s .pre .0) _ (s .pre .1 .1 .0) _ _ (room-told _ _ (s .pre .1 .0) (s .pre .0) (s .args .amount) (now (s .args .cells)) (s .pre .1 .1 .1)) (c .before .before .before .before .before .before .fill-by-amount .ensures)
+    _ _ (c .before .shortest-of .ensures) (gives-none _ (c .if1 .taken))
 
--- src/answering.rt:39:1
 same-length-2 : tie.Need-same-length-2
 same-length-2 c = search needs
 
--- src/answering.rt:39:1
 returns-2 : tie.Need-returns-2
-returns-2 c = ?
+returns-2 c =
+    let s = c .before .before .before .before .before .before .before .before .before .before in
+    shortest-answers _ _ (s .pre .1 .0) (s .pre .0) _ (s .pre .1 .1 .0) _ _ (room-told _ _ (s .pre .1 .0) (s .pre .0) (s .args .amount) (now (s .args .cells)) (s .pre .1 .1 .1)) (c .before .before .before .before .before .before .fill-by-amount .ensures)
+    _ _ (c .before .shortest-of .ensures) (gives-time _ (c .if1 .left))
 
 pub shortest-in-spec : {M : Type 1} → statement M
 shortest-in-spec =

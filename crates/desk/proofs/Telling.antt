@@ -1,0 +1,167 @@
+-- What the tables of an accepted sheet tell a call: the numbers read off its cells are those that the call promises.
+use Prim.Native.Nat.{ℕ, _+_, _-_, _*_, _^_, _≤_, _<_}
+use native.Mathlib.Omega.{arith}
+use mathlib.Core.Path.{_≡_, refl, sym, ap, ap₂, _∙_, subst}
+use mathlib.Core.Bool.{Bool, true, false}
+use mathlib.Core.List.{List, _++_}
+use lib.Dec.{ltb, eqb}
+use lib.IntN.{ℤ, pos, _-ℤ_}
+use lib.ListN.{length, drop}
+use mir.Syntax.{w64}
+use mir.Val.{toZ, ofZ}
+use mir.Facts.{toZ-pos}
+use borrow.Author.Tests.{lt-ltb, le-ltb, eq-eqb, ne-eqb}
+use Rattle.walks.specs.Graph.{Graph}
+use Rattle.walks.specs.Demand.{longestTime, noTime, IsDemand, IsWitness, IsShortest}
+use Rattle.walks.specs.Cells.{IsLeastFrom, ByInterval, ByAmount, Filled}
+use Rattle.walks.specs.Fixed.{Task, fixedSum}
+use Rattle.walks.specs.Verdict.{IsMargin, IsVerdict}
+use Rattle.walks.specs.Computed.{cellAt, cellFor, maxBelow, minBelow, witnessOf}
+use Rattle.walks.proofs.ByAmount.{shortest-is}
+use Rattle.walks.proofs.Differences.{sub-is64}
+use Rattle.walks.proofs.Existence.{witness-of}
+use Rattle.walks.proofs.Margins.{difference, margin-sub}
+use Rattle.sheet.specs.Judging.{judged}
+use Rattle.sheet.specs.Meaning.{graphOf, tasksOf}
+use Rattle.sheet.specs.Proper.{Bytes}
+use Rattle.sheet.specs.declared.Answer.the-variants.{Accepted}
+use Rattle.sheet.specs.declared.values.Sheet.{Sheet}
+use Rattle.sheet.proofs.Accepted.{accepted-proper}
+use Rattle.sheet.proofs.ProperGraph.{proper-sound, length-proper}
+use Rattle.cells.specs.Ready.{Ready}
+use Rattle.cells.specs.Lines.{HasLines}
+use Rattle.cells.specs.Sweeping.{IsSwept, verdictOf}
+use Rattle.cells.specs.declared.sweep.Swept.{Swept}
+use Rattle.cells.proofs.Lines.{filled-lines, line-demand}
+use Rattle.desk.specs.Calls.{Either, graph, tasks, lines, FilledByInterval, FilledByAmount, DemandGives, DemandAnswers, MarginAnswers, ShortestGives, ShortestAnswers, VerdictAnswers, verdictAnswer}
+use Rattle.desk.specs.declared.DemandAnswer as demand
+use Rattle.desk.specs.declared.DemandAnswer.the-variants as demand-case
+use Rattle.desk.specs.declared.MarginAnswer.the-variants as margin-case
+use Rattle.desk.specs.declared.ShortestAnswer as shortest
+use Rattle.desk.specs.declared.ShortestAnswer.the-variants as shortest-case
+use Rattle.desk.specs.declared.VerdictAnswer as verdict
+
+-- the tables may be filled for every accepted sheet
+pub accepted-ready : (bytes : List ℕ) → Bytes bytes → judged bytes .answer ≡ Accepted → Ready bytes (judged bytes .sheet)
+accepted-ready bytes fit accepted =
+    let proper = accepted-proper bytes fit accepted in
+    record {
+      proper = proper;
+      sound = proper-sound bytes (judged bytes .sheet) proper;
+      lengths-most = λ k h. length-proper bytes (judged bytes .sheet) proper k h .1;
+    }
+
+-- a sheet in hand, and the bytes that it was judged from
+module _ (bytes : List ℕ) (sheet : Sheet) (is : sheet ≡ judged bytes .sheet) (ready : Ready bytes sheet) where
+  -- lines filled by interval for the sheet are those that the call promises
+  by-interval-told : (count : ℕ) (old new : List ℕ)
+      → Filled (sheet .tally .rows) (ByInterval (graphOf bytes sheet)) old new (sheet .tally .rows * count) → FilledByInterval bytes count old new
+  by-interval-told count old new =
+      subst (λ (s : Sheet). Filled (s .tally .rows) (ByInterval (graphOf bytes s)) old new (s .tally .rows * count)) is
+
+  -- and by amount
+  by-amount-told : (count : ℕ) (old new : List ℕ)
+      → Filled (sheet .tally .rows) (ByAmount (graphOf bytes sheet)) old new (sheet .tally .rows * count) → FilledByAmount bytes count old new
+  by-amount-told count old new =
+      subst (λ (s : Sheet). Filled (s .tally .rows) (ByAmount (graphOf bytes s)) old new (s .tally .rows * count)) is
+
+  -- there is room for the lines of the sheet
+  pub room-told : (count : ℕ) (cells : List ℕ) → lines bytes count ≤ length cells → sheet .tally .rows * count ≤ length cells
+  room-told count cells = subst (λ (s : Sheet). s .tally .rows * count ≤ length cells) (sym is)
+
+  module _ (t : ℕ) (old new : List ℕ) (room : sheet .tally .rows * (t + 1) ≤ length old)
+      (filled : Filled (sheet .tally .rows) (ByInterval (graphOf bytes sheet)) old new (sheet .tally .rows * (t + 1))) where
+    -- the filled lines, as the witness asks for them
+    pub lines-told : HasLines (sheet .tally .rows) (ByInterval (graphOf bytes sheet)) new (t + 1)
+    lines-told = filled-lines (sheet .tally .rows) (ByInterval (graphOf bytes sheet)) (t + 1) old new room filled
+
+    -- the largest cell of the last line is the demand
+    demand-told : (amount : ℕ) → amount ≡ maxBelow (sheet .tally .rows) (cellAt (sheet .tally .rows) new t) → IsDemand (graph bytes) t amount
+    unfolding graphOf
+    demand-told amount e =
+        subst (λ (s : Sheet). IsDemand (graphOf bytes s) t amount) is
+        (subst (IsDemand (graphOf bytes sheet) t) (sym e) (line-demand (graphOf bytes sheet) (ready .sound) new (t + 1) lines-told t (omega arith)))
+
+    -- a margin read off the last line and fixed demand
+    pub margin-told : (amount fixed : ℕ) (m : ℤ)
+        → amount ≡ maxBelow (sheet .tally .rows) (cellAt (sheet .tally .rows) new t) → fixed ≡ fixedSum (tasksOf sheet) t → m ≡ pos t -ℤ pos (amount + fixed)
+        → MarginAnswers bytes t old (margin-case.Found m) new
+    margin-told amount fixed m most sum e =
+        let same-sum : fixed ≡ fixedSum (tasks bytes) t = sum ∙ ap (λ (s : Sheet). fixedSum (tasksOf s) t) is in
+        (by-interval-told (t + 1) old new filled,
+        (m, (amount, demand-told amount most,
+        e ∙ difference t (amount + fixed) ∙ sym (margin-sub t amount fixed) ∙ ap (λ (f : ℕ). pos t -ℤ pos amount -ℤ pos f) same-sum), refl))
+
+    witness-told : IsWitness (graph bytes) t (witnessOf (graphOf bytes sheet) t)
+    witness-told = subst (λ (s : Sheet). IsWitness (graphOf bytes s) t (witnessOf (graphOf bytes sheet) t)) is (witness-of (graphOf bytes sheet) (ready .sound) t)
+
+    -- a demand read off the last line, with a witness that does not fit
+    pub demand-too-long : (amount : ℕ) (area : List ℕ)
+        → amount ≡ maxBelow (sheet .tally .rows) (cellAt (sheet .tally .rows) new t) → length area < length (witnessOf (graphOf bytes sheet) t)
+        → DemandAnswers bytes t old area (demand-case.Refused 13 0) new area
+    demand-too-long amount area most long =
+        (by-interval-told (t + 1) old new filled,
+        (amount, witnessOf (graphOf bytes sheet) t, demand-told amount most, witness-told,
+        rw (lt-ltb (length area) (length (witnessOf (graphOf bytes sheet) t)) long) (refl, refl)))
+
+    -- and with one that is written
+    pub demand-written : (amount count : ℕ) (area area′ : List ℕ)
+        → amount ≡ maxBelow (sheet .tally .rows) (cellAt (sheet .tally .rows) new t) → count ≡ length (witnessOf (graphOf bytes sheet) t)
+        → length (witnessOf (graphOf bytes sheet) t) ≤ length area → area′ ≡ witnessOf (graphOf bytes sheet) t ++ drop (length (witnessOf (graphOf bytes sheet) t)) area
+        → DemandAnswers bytes t old area (demand-case.Found amount count) new area′
+    demand-written amount count area area′ most counted fits written =
+        (by-interval-told (t + 1) old new filled,
+        (amount, witnessOf (graphOf bytes sheet) t, demand-told amount most, witness-told,
+        rw (le-ltb (length area) (length (witnessOf (graphOf bytes sheet) t)) fits) (ap (demand-case.Found amount) counted, written)))
+
+  module _ (b : ℕ) (some : 1 ≤ b) (old new : List ℕ) (room : sheet .tally .rows * b ≤ length old)
+      (filled : Filled (sheet .tally .rows) (ByAmount (graphOf bytes sheet)) old new (sheet .tally .rows * b)) where
+    -- the smallest cell of the last line is the shortest interval
+    shortest-told : (time : ℕ) → time ≡ minBelow (sheet .tally .rows) noTime (cellFor (sheet .tally .rows) new b) → IsShortest (graph bytes) b time
+    unfolding graphOf
+    shortest-told time e =
+        let table = filled-lines (sheet .tally .rows) (ByAmount (graphOf bytes sheet)) b old new room filled in
+        let line : b - 1 + 1 ≡ b = omega arith in
+        subst (λ (s : Sheet). IsShortest (graphOf bytes s) b time) is
+        (subst (IsShortest (graphOf bytes sheet) b) (sym e)
+        (shortest-is (graphOf bytes sheet) b (cellFor (sheet .tally .rows) new b)
+        (λ k h. subst (λ (a : ℕ). IsLeastFrom (graphOf bytes sheet) k a (cellFor (sheet .tally .rows) new b k)) line (table .right (b - 1) k (omega arith) h))))
+
+    -- what `shortest` answers, read off the last line
+    pub shortest-answers : (time : ℕ) (answer : shortest.ShortestAnswer)
+        → time ≡ minBelow (sheet .tally .rows) noTime (cellFor (sheet .tally .rows) new b) → ShortestGives answer time
+        → ShortestAnswers bytes b old answer new
+    shortest-answers time answer least gives = (by-amount-told b old new filled, (time, shortest-told time least, gives))
+
+  -- a verdict from lines filled by interval
+  pub verdict-by-interval-told : (horizon : ℕ) (old new : List ℕ) → sheet .tally .rows * (horizon + 1) ≤ length old
+      → Filled (sheet .tally .rows) (ByInterval (graphOf bytes sheet)) old new (sheet .tally .rows * (horizon + 1))
+      → (swept : Swept) → IsSwept ByInterval sheet new horizon swept
+      → (answer : verdict.VerdictAnswer) → answer ≡ verdictAnswer (verdictOf swept) → VerdictAnswers FilledByInterval bytes horizon old answer new
+  verdict-by-interval-told horizon old new room filled swept says answer e =
+      (by-interval-told (horizon + 1) old new filled,
+      (verdictOf swept,
+      subst (λ (s : Sheet). IsVerdict (graphOf bytes s) (tasksOf s) horizon (verdictOf swept)) is
+      (says bytes ready (filled-lines (sheet .tally .rows) (ByInterval (graphOf bytes sheet)) (horizon + 1) old new room filled)), e))
+
+  -- and by amount
+  pub verdict-by-amount-told : (horizon : ℕ) (old new : List ℕ) → sheet .tally .rows * (horizon + 1) ≤ length old
+      → Filled (sheet .tally .rows) (ByAmount (graphOf bytes sheet)) old new (sheet .tally .rows * (horizon + 1))
+      → (swept : Swept) → IsSwept ByAmount sheet new horizon swept
+      → (answer : verdict.VerdictAnswer) → answer ≡ verdictAnswer (verdictOf swept) → VerdictAnswers FilledByAmount bytes horizon old answer new
+  verdict-by-amount-told horizon old new room filled swept says answer e =
+      (by-amount-told (horizon + 1) old new filled,
+      (verdictOf swept,
+      subst (λ (s : Sheet). IsVerdict (graphOf bytes s) (tasksOf s) horizon (verdictOf swept)) is
+      (says bytes ready (filled-lines (sheet .tally .rows) (ByAmount (graphOf bytes sheet)) (horizon + 1) old new room filled)), e))
+
+-- no time is 14, and any other is found
+pub gives-none : (time : ℕ) → time ≡ noTime → ShortestGives (shortest-case.Refused 14 0) time
+gives-none time e = rw (eq-eqb time noTime e) refl
+
+pub gives-time : (time : ℕ) → (time ≡ noTime → ⊥) → ShortestGives (shortest-case.Found time) time
+gives-time time e = rw (ne-eqb time noTime e) refl
+
+-- a difference of two numbers that are not too large keeps its value as a signed number
+pub difference-kept : (t n : ℕ) → t < 2 ^ 63 → n < 2 ^ 63 → toZ w64 (ofZ w64 (pos t -ℤ pos n)) ≡ pos t -ℤ pos n
+difference-kept t n a b = ap₂ (λ (x y : ℤ). toZ w64 (ofZ w64 (x -ℤ y))) (sym (toZ-pos w64 a)) (sym (toZ-pos w64 b)) ∙ sub-is64 t n a b

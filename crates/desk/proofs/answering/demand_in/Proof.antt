@@ -1,0 +1,75 @@
+-- `demand_in` meets its contract: what it reads off the filled lines is the demand and its witness.
+use Prim.Native.Nat.{ℕ, _+_, _≤_, _<_}
+use Rattle.cells.specs.Lines.{HasLines}
+use Rattle.desk.proofs.Telling.{room-told, lines-told, demand-too-long, demand-written}
+use Rattle.desk.proofs.answering.demand_in.Statement.{statement}
+use Rattle.desk.specs.Calls.{lines}
+use Rattle.sheet.specs.Deciding.{_or_}
+use Rattle.sheet.specs.Meaning.{graphOf}
+use Rattle.walks.specs.Cells.{ByInterval}
+use borrow.Author.Needs.{needs}
+use denote.Ref.{now}
+use lib.ListN.{length}
+use mathlib.Core.Path.{subst}
+use Rattle.desk.proofs.answering.demand_in.Tie as tie
+
+fill-by-interval-requires : tie.Need-fill-by-interval-requires
+fill-by-interval-requires c κs =
+    let s = c .before .before .before .before in
+    (s .pre .0, (s .pre .1 .1 .0, room-told _ _ (s .pre .1 .0) (s .pre .0) (s .args .t + 1) (now (s .args .cells)) (s .pre .1 .1 .1)))
+
+-- the filled lines
+table : (c : tie.After-fill-by-interval) →
+    let a = c .before .before .before .before .before .args in
+    HasLines (a .sheet .tally .rows) (ByInterval (graphOf (now (a .bytes)) (a .sheet))) (c .fill-by-interval .last .1 .1 .0) (a .t + 1)
+table c =
+    let s = c .before .before .before .before .before in
+    lines-told _ _ (s .pre .1 .0) (s .pre .0) _ _ _ (room-told _ _ (s .pre .1 .0) (s .pre .0) (s .args .t + 1) (now (s .args .cells)) (s .pre .1 .1 .1)) (c .fill-by-interval .ensures)
+
+demand-of-requires : tie.Need-demand-of-requires
+demand-of-requires c κs = table (c .before .before .before .before) .room
+
+witness-count-requires : tie.Need-witness-count-requires
+witness-count-requires c κs = (c .before .before .before .before .before .before .before .before .before .before .before .pre .0, (c .before .before .before .before .before .before .before .before .before .before .before .pre .1 .1 .0, table (c .before .before .before .before .before .before)))
+
+same-length : tie.Need-same-length
+same-length c = search needs
+
+returns : tie.Need-returns
+returns c =
+    let s = c .before .before .before .before .before .before .before .before .before .before .before .before .before in
+    demand-too-long _ _ (s .pre .1 .0) (s .pre .0) _ _ _ (room-told _ _ (s .pre .1 .0) (s .pre .0) (s .args .t + 1) (now (s .args .cells)) (s .pre .1 .1 .1)) (c .before .before .before .before .before .before .before .before .fill-by-interval .ensures)
+    (c .before .before .before .demand-of .result) (now (s .args .area)) (c .before .before .before .demand-of .ensures) (subst (λ (x : ℕ). length (now (s .args .area)) < x) (c .before .witness-count .ensures) (c .if1 .taken))
+
+write-witness-requires : tie.Need-write-witness-requires
+write-witness-requires c κs =
+    let s = c .before .before .before .before .before .before .before .before .before .before .before .before .before .before .before in
+    (s .pre .0, (s .pre .1 .1 .0, (table (c .before .before .before .before .before .before .before .before .before .before), subst (λ (x : ℕ). x ≤ length (now (s .args .area))) (c .before .before .before .witness-count .ensures) (c .before .before .if1 .left))))
+
+same-length-2 : tie.Need-same-length-2
+same-length-2 c = search needs
+
+same-length-3 : tie.Need-same-length-3
+same-length-3 c = search needs
+
+returns-2 : tie.Need-returns-2
+returns-2 c =
+    let s = c .before .before .before .before .before .before .before .before .before .before .before .before .before .before .before .before .before .before in
+    let written = c .before .before .write-witness .ensures in
+    demand-written _ _ (s .pre .1 .0) (s .pre .0) _ _ _ (room-told _ _ (s .pre .1 .0) (s .pre .0) (s .args .t + 1) (now (s .args .cells)) (s .pre .1 .1 .1)) (c .before .before .before .before .before .before .before .before .before .before .before .before .before .fill-by-interval .ensures)
+    _ _ _ _ (c .before .before .before .before .before .before .before .before .demand-of .ensures) (c .before .before .before .before .before .before .witness-count .ensures)
+    (subst (λ (x : ℕ). x ≤ length (now (s .args .area))) (c .before .before .before .before .before .before .witness-count .ensures) (c .before .before .before .before .before .if1 .left)) (written .is)
+
+pub demand-in-spec : {M : Type 1} → statement M
+demand-in-spec =
+    tie.close
+    (tie.spec
+    fill-by-interval-requires
+    demand-of-requires
+    witness-count-requires
+    same-length
+    returns
+    write-witness-requires
+    same-length-2
+    same-length-3
+    returns-2)
