@@ -38,11 +38,15 @@ leads-on n gap table s want some j h e =
     let fits : (0 < gap j) × (gap j ≤ s) = via-positive gap table s j (omega (arith, adds)) in
     (fits .0, fits .1, sym (via-take gap table s j (fits .0) (fits .1)) ∙ adds)
 
+-- row i is a follower that adds just the work wanted
+abbrev pub Adds : List ℕ → List ℕ → ℕ → ℕ → ℕ → ℕ → ℕ → ℕ → Type 0
+Adds bytes cells n followers first s want i = (bit followers i ≡ 1) × (addedAt n cells s (gapTo bytes followers first i) i ≡ want)
+
 -- the first gap from row `from` on stands at `place`, and no follower below `from` adds just the work wanted
 pub record Sought (bytes cells : List ℕ) (n followers first s want place from : ℕ) : Type 0 where
   pub within : from ≤ 64
   pub next-gap : place ≡ first + gapSize * below followers from
-  pub none : (i : ℕ) → i < from → bit followers i ≡ 1 → addedAt n cells s (gapTo bytes followers first i) i ≡ want → ⊥
+  pub none : (i : ℕ) → i < from → Adds bytes cells n followers first s want i → ⊥
 
 module _ (bytes cells : List ℕ) (n followers first s want : ℕ) where
   pub sought-start : Sought bytes cells n followers first s want first 0
@@ -51,9 +55,8 @@ module _ (bytes cells : List ℕ) (n followers first s want : ℕ) where
 
   module _ (place from : ℕ) (sought : Sought bytes cells n followers first s want place from) where
     -- what holds below `from` holds below a row with no follower in between
-    pub sought-none : (j : ℕ) → ((i : ℕ) → from ≤ i → i < j → bit followers i ≡ 0) → (i : ℕ) → i < j → bit followers i ≡ 1
-        → addedAt n cells s (gapTo bytes followers first i) i ≡ want → ⊥
-    sought-none j clear i l b e = ⊎-elim (λ h. sought .none i h b e) (λ h. omega (arith, b, clear i h l)) (lt-or i from)
+    pub sought-none : (j : ℕ) → ((i : ℕ) → from ≤ i → i < j → bit followers i ≡ 0) → (i : ℕ) → i < j → Adds bytes cells n followers first s want i → ⊥
+    sought-none j clear i l a = ⊎-elim (λ h. sought .none i h a) (λ h. omega (arith, a .0, clear i h l)) (lt-or i from)
 
     module _ (j : ℕ) (next : First (64 - from) followers from j) where
       -- the gap of the next follower
@@ -78,30 +81,28 @@ module _ (bytes cells : List ℕ) (n followers first s want : ℕ) where
       sought-next other = record {
         within = omega (arith, next .within, sought .within);
         next-gap = omega (arith, sought .next-gap, below-clear followers from j (next .from) (next .clear), below-step followers j, next .is-in);
-        none = λ i l b e. ⊎-elim (λ h. sought-none j (next .clear) i h b e) (λ h. let same : i ≡ j = omega arith in other (rw same at e)) (lt-or i j);
+        none = λ i l a. ⊎-elim (λ h. sought-none j (next .clear) i h a) (λ h. let same : i ≡ j = omega arith in other (rw same at (a .1))) (lt-or i j);
       }
 
 module _ (bytes : List ℕ) (n : ℕ) (row : Row) (proper : ProperRow bytes n row) (fits : row .followers < 2 ^ 64) (cells : List ℕ) (s want : ℕ) (some : 0 < want) where
   -- a row that does not add just the work as a follower does not lead on
-  not-leading : (i : ℕ) → (bit (row .followers) i ≡ 1 → addedAt n cells s (gapTo bytes (row .followers) (row .gaps) i) i ≡ want → ⊥)
-      → leads (gapOf bytes row) (cellAt n cells) s want i ≡ false
+  not-leading : (i : ℕ) → (Adds bytes cells n (row .followers) (row .gaps) s want i → ⊥) → leads (gapOf bytes row) (cellAt n cells) s want i ≡ false
   not-leading i other =
       ⊎-elim
       (λ b. ne-eqb (viaAt (gapOf bytes row) (cellAt n cells) s i) want (λ e. omega (arith, e, via-other bytes n row proper fits cells s i b)))
-      (λ b. ne-eqb _ _ (λ e. other b (sym (via-follower bytes n row proper fits cells s i b) ∙ e)))
+      (λ b. ne-eqb _ _ (λ e. other (b, sym (via-follower bytes n row proper fits cells s i b) ∙ e)))
       (bit-or (row .followers) i)
 
   -- the first follower that adds just the work is found
-  pub leading-is : (j : ℕ) → bit (row .followers) j ≡ 1 → addedAt n cells s (gapTo bytes (row .followers) (row .gaps) j) j ≡ want
-      → ((i : ℕ) → i < j → bit (row .followers) i ≡ 1 → addedAt n cells s (gapTo bytes (row .followers) (row .gaps) i) i ≡ want → ⊥)
-      → j ≡ seek n 0 (leads (gapOf bytes row) (cellAt n cells) s want)
-  leading-is j b e none =
-      seek-is n _ j (proper .followers-exist j b)
-      (eq-eqb _ _ (via-follower bytes n row proper fits cells s j b ∙ e))
+  pub leading-is : (j : ℕ) → Adds bytes cells n (row .followers) (row .gaps) s want j
+      → ((i : ℕ) → i < j → Adds bytes cells n (row .followers) (row .gaps) s want i → ⊥) → j ≡ seek n 0 (leads (gapOf bytes row) (cellAt n cells) s want)
+  leading-is j a none =
+      seek-is n _ j (proper .followers-exist j (a .0))
+      (eq-eqb _ _ (via-follower bytes n row proper fits cells s j (a .0) ∙ a .1))
       (λ i l. not-leading i (none i l))
 
   -- where none does, none is found
-  pub leading-none : ((i : ℕ) → i < n → bit (row .followers) i ≡ 1 → addedAt n cells s (gapTo bytes (row .followers) (row .gaps) i) i ≡ want → ⊥)
+  pub leading-none : ((i : ℕ) → i < n → Adds bytes cells n (row .followers) (row .gaps) s want i → ⊥)
       → n ≡ seek n 0 (leads (gapOf bytes row) (cellAt n cells) s want)
   leading-none none = seek-none n _ (λ i l. not-leading i (none i l))
 

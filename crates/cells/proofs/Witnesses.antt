@@ -60,7 +60,7 @@ module _ (g : Graph) (sound : Sound g) (cells : List ℕ) (t : ℕ) (table : Has
   cell-is : (s k : ℕ) → s ≤ t → k < g .rows → cellAt (g .rows) cells s k ≡ best g s k
   cell-is s k l h = best-unique g k s _ _ (table .right s k (omega arith) h) (best-of g sound s k h)
 
-  pub demand-same : maxBelow (g .rows) (cellAt (g .rows) cells t) ≡ demandOf g t
+  demand-same : maxBelow (g .rows) (cellAt (g .rows) cells t) ≡ demandOf g t
   unfolding demandOf
   demand-same = max-same (g .rows) (cellAt (g .rows) cells t) (best g t) (λ k h. cell-is t k (omega arith) h)
 
@@ -121,58 +121,55 @@ module _ (g : Graph) (sound : Sound g) (cells : List ℕ) (t : ℕ) (table : Has
       nothing : (r k : ℕ) → g .length k < r → eqb 0 (r - g .length k) ≡ false
       nothing r k more = ne-eqb 0 (r - g .length k) (λ e. omega (arith, e))
 
-  module _ (before : List ℕ) (stand : Stand) (way : OnWay g t before stand) where
-    module _ (l : g .length (stand .row) < stand .work) where
-      k : ℕ
-      k = stand .row
+  -- a step to the next row, where the work left is more than the row's own
+  module _ (before : List ℕ) (stand : Stand) (way : OnWay g t before stand) (l : g .length (stand .row) < stand .work) where
+    -- where the witness stands next
+    next : Stand
+    next = onwardOf (g .gap (stand .row)) cells (g .length (stand .row)) (g .rows) stand
 
-      -- where the witness stands next
-      next : Stand
-      next = onwardOf (g .gap (stand .row)) cells (g .length (stand .row)) (g .rows) stand
+    -- there is a row that leads on
+    pub way-found : onwardOf (g .gap (stand .row)) cells (g .length (stand .row)) (g .rows) stand .row < g .rows
+    unfolding onwardOf
+    way-found =
+        let s : ℕ = stand .left in
+        let gap : ℕ → ℕ = g .gap (stand .row) in
+        let test : ℕ → Bool = leads gap (cellAt (g .rows) cells) s (stand .work - g .length (stand .row)) in
+        let found = next-row g s (stand .row) (stand .work) (way .row-in) (λ i. cellAt (g .rows) cells (s - gap i) i)
+        (λ i h p q. table .right (s - gap i) i (omega (arith, way .in-time)) h) (way .cell) l in
+        let passes : test (found .0) ≡ true =
+        eq-eqb _ _ (via-take gap (cellAt (g .rows) cells) s (found .0) (found .2) (found .3) ∙ found .4) in
+        omega (arith, found .1, seek-le (g .rows) 0 test (found .0) (omega arith) passes)
 
-      -- there is a row that leads on
-      pub way-found : onwardOf (g .gap (stand .row)) cells (g .length (stand .row)) (g .rows) stand .row < g .rows
-      unfolding onwardOf
-      way-found =
-          let s : ℕ = stand .left in
-          let gap : ℕ → ℕ = g .gap (stand .row) in
-          let test : ℕ → Bool = leads gap (cellAt (g .rows) cells) s (stand .work - g .length (stand .row)) in
-          let found = next-row g s (stand .row) (stand .work) (way .row-in) (λ i. cellAt (g .rows) cells (s - gap i) i)
-          (λ i h p q. table .right (s - gap i) i (omega (arith, way .in-time)) h) (way .cell) l in
-          let passes : test (found .0) ≡ true =
-          eq-eqb _ _ (via-take gap (cellAt (g .rows) cells) s (found .0) (found .2) (found .3) ∙ found .4) in
-          omega (arith, found .1, seek-le (g .rows) 0 test (found .0) (omega arith) passes)
+    -- its gap fits, and its cell is the rest of the work
+    next-leads : (0 < g .gap (stand .row) (next .row)) × (g .gap (stand .row) (next .row) ≤ stand .left) × (cellAt (g .rows) cells (next .left) (next .row) ≡ next .work)
+    unfolding next onwardOf
+    next-leads = leads-on (g .rows) (g .gap (stand .row)) (cellAt (g .rows) cells) (stand .left) (next .work) (omega arith) (next .row) way-found refl
 
-      -- its gap fits, and its cell is the rest of the work
-      next-leads : (0 < g .gap k (next .row)) × (g .gap k (next .row) ≤ stand .left) × (cellAt (g .rows) cells (next .left) (next .row) ≡ next .work)
-      unfolding k next onwardOf
-      next-leads = leads-on (g .rows) (g .gap k) (cellAt (g .rows) cells) (stand .left) (next .work) (omega arith) (next .row) way-found refl
+    -- the rows after this one begin with it
+    rest-is : (fuel : ℕ) → way .fuel ≡ suc fuel
+        → restWithin g (suc (way .fuel)) (stand .left) (stand .row) (stand .work) ≡ next .row ∷ restWithin g (suc fuel) (next .left) (next .row) (next .work)
+    unfolding next onwardOf
+    rest-is fuel e =
+        let same : next .row ≡ seek (g .rows) 0 (goesOn g (stand .left) (stand .row) (stand .work)) =
+        seek-same (g .rows) 0 _ _ (λ j _ h. leads-same (stand .left) (stand .row) (stand .work) j (way .in-time) l (omega arith)) in
+        rest-more g (way .fuel) (stand .left) (stand .row) (stand .work) l (next .row) same
+        ∙ ap (λ (f : ℕ). next .row ∷ restWithin g f (next .left) (next .row) (next .work)) e
 
-      -- the rows after this one begin with it
-      rest-is : (fuel : ℕ) → way .fuel ≡ suc fuel
-          → restWithin g (suc (way .fuel)) (stand .left) (stand .row) (stand .work) ≡ next .row ∷ restWithin g (suc fuel) (next .left) (next .row) (next .work)
-      unfolding next onwardOf
-      rest-is fuel e =
-          let same : next .row ≡ seek (g .rows) 0 (goesOn g (stand .left) (stand .row) (stand .work)) =
-          seek-same (g .rows) 0 _ _ (λ j _ h. leads-same (stand .left) (stand .row) (stand .work) j (way .in-time) l (omega arith)) in
-          rest-more g (way .fuel) (stand .left) (stand .row) (stand .work) l (next .row) same
-          ∙ ap (λ (f : ℕ). next .row ∷ restWithin g f (next .left) (next .row) (next .work)) e
-
-      -- with this row passed the witness goes on from there
-      pub way-next : OnWay g t (before ++ stand .row ∷ []) (onwardOf (g .gap (stand .row)) cells (g .length (stand .row)) (g .rows) stand)
-      unfolding k next onwardOf
-      way-next =
-          let fuel : ℕ = way .fuel - 1 in
-          let in-line : next .left < t + 1 = omega (arith, way .in-time) in
-          record {
-            row-in = way-found;
-            in-time = omega (arith, way .in-time);
-            some = omega (arith, l);
-            cell = subst (λ (v : ℕ). IsBestFrom g (next .row) (next .left) v) (next-leads .2) (table .right (next .left) (next .row) in-line way-found);
-            fuel = fuel;
-            enough = omega (arith, next-leads .0, way .enough);
-            whole =
-                append-assoc before (stand .row ∷ []) (next .row ∷ restWithin g (suc fuel) (next .left) (next .row) (next .work))
-                ∙ ap (λ (w : List ℕ). before ++ stand .row ∷ w) (sym (rest-is fuel (omega (arith, next-leads .0, next-leads .1, way .enough))))
-                ∙ way .whole;
-          }
+    -- with this row passed the witness goes on from there
+    pub way-next : OnWay g t (before ++ stand .row ∷ []) (onwardOf (g .gap (stand .row)) cells (g .length (stand .row)) (g .rows) stand)
+    unfolding next onwardOf
+    way-next =
+        let fuel : ℕ = way .fuel - 1 in
+        let in-line : next .left < t + 1 = omega (arith, way .in-time) in
+        record {
+          row-in = way-found;
+          in-time = omega (arith, way .in-time);
+          some = omega (arith, l);
+          cell = subst (λ (v : ℕ). IsBestFrom g (next .row) (next .left) v) (next-leads .2) (table .right (next .left) (next .row) in-line way-found);
+          fuel = fuel;
+          enough = omega (arith, next-leads .0, way .enough);
+          whole =
+              append-assoc before (stand .row ∷ []) (next .row ∷ restWithin g (suc fuel) (next .left) (next .row) (next .work))
+              ∙ ap (λ (w : List ℕ). before ++ stand .row ∷ w) (sym (rest-is fuel (omega (arith, next-leads .0, next-leads .1, way .enough))))
+              ∙ way .whole;
+        }

@@ -54,7 +54,7 @@ pub fn witness_count(bytes: &[u8], sheet: Sheet, cells: &[u32], t: usize) -> usi
     }
 }
 
-// Writes the rows of the witness at t into an area that has room for them, and gives their count.
+// Writes the rows of the witness at t, a byte each, into an area that has room for them, and gives their count. Bytes past it keep their values.
 pub fn write_witness(bytes: &[u8], sheet: Sheet, cells: &[u32], t: usize, area: &mut [u8]) -> usize
     requires { ⌜ Ready (now bytes) sheet ⌝ }
     requires { ⌜ t ≤ longestTime ⌝ }

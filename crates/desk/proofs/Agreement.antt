@@ -16,7 +16,7 @@ use Rattle.sheet.specs.Judging.{judged}
 use Rattle.sheet.proofs.Deciding.{neither}
 use Rattle.sheet.specs.declared.Answer.{Answer}
 use Rattle.sheet.specs.declared.Answer.the-variants as sheet-case
-use Rattle.desk.specs.Calls.{Begins, Either, badAmount, graph, tasks, rows, lines, FilledByInterval, FilledByAmount, DemandRefuses, DemandGives, DemandAnswers, DemandCall, ShortestRefuses, ShortestGives, ShortestAnswers, ShortestCall, VerdictRefuses, VerdictAnswers, VerdictByIntervalCall, VerdictByAmountCall, verdictAnswer}
+use Rattle.desk.specs.Calls.{Begins, Either, badAmount, graph, tasks, rows, lines, FilledByInterval, FilledByAmount, DemandRefuses, DemandGives, DemandAnswers, DemandCall, ShortestRefuses, ShortestGives, ShortestAnswers, ShortestCall, VerdictRefuses, VerdictAnswers, VerdictCall, VerdictByIntervalCall, VerdictByAmountCall, verdictAnswer}
 use Rattle.desk.specs.declared.DemandAnswer.the-variants as demand-case
 use Rattle.desk.specs.declared.ShortestAnswer as shortest
 use Rattle.desk.specs.declared.ShortestAnswer.the-variants as shortest-case
@@ -53,6 +53,7 @@ told-refused answer time none gives = subst (λ (test : Bool). Either test (answ
 -- an amount that `demand` found is the demand of an accepted sheet, at an interval that may be asked about
 module _ (bytes : List ℕ) (t : ℕ) (cells area : List ℕ) (amount count : ℕ) (cells′ area′ : List ℕ) where
   pub found-demand : DemandCall bytes t cells area (demand-case.Found amount count) cells′ area′ → IsDemand (graph bytes) t amount × (t ≤ longestTime) × (judged bytes .answer ≡ sheet-case.Accepted)
+  unfolding DemandCall
   found-demand call = given (came .0)
     where
       came : DemandAnswers bytes t cells area (demand-case.Found amount count) cells′ area′ × (judged bytes .answer ≡ sheet-case.Accepted) × (ltb longestTime t ≡ false)
@@ -67,13 +68,14 @@ module _ (bytes : List ℕ) (t : ℕ) (cells area : List ℕ) (amount count : �
           either-case (ltb (length area) (length witness)) _ _ _
           (λ (p : (demand-case.Found amount count ≡ demand-case.Refused 13 0) × (area′ ≡ area)). absurd (found-not-refused amount count 13 0 (p .0)))
           (λ (p : (demand-case.Found amount count ≡ demand-case.Found most (length witness)) × (area′ ≡ witness ++ drop (length witness) area)).
-            let same : most ≡ amount = cc in
-            (subst (IsDemand (graph bytes) t) same is, ltb-false longestTime t (came .2), came .1))
+          let same : most ≡ amount = cc in
+          (subst (IsDemand (graph bytes) t) same is, ltb-false longestTime t (came .2), came .1))
           gives
 
 -- a time that `shortest` found is the shortest interval, for an amount that may be asked about
 module _ (bytes : List ℕ) (b : ℕ) (cells : List ℕ) (time : ℕ) (cells′ : List ℕ) where
   pub found-shortest : ShortestCall bytes b cells (shortest-case.Found time) cells′ → IsShortest (graph bytes) b time × (1 ≤ b)
+  unfolding ShortestCall
   found-shortest call = given (came .0)
     where
       came : ShortestAnswers bytes b cells (shortest-case.Found time) cells′ × (judged bytes .answer ≡ sheet-case.Accepted) × (badAmount b ≡ false)
@@ -88,9 +90,9 @@ module _ (bytes : List ℕ) (b : ℕ) (cells : List ℕ) (time : ℕ) (cells′ 
           either-case (eqb least noTime) _ _ _
           (λ (p : shortest-case.Found time ≡ shortest-case.Refused 14 0). absurd (time-not-refused time 14 0 p))
           (λ (p : shortest-case.Found time ≡ shortest-case.Found least).
-            let same : least ≡ time = cc in
-            let some : b ≡ 0 → ⊥ = eqb-false b 0 (neither (eqb b 0) (ltb (longestTime + 1) b) (came .2) .0) in
-            (subst (IsShortest (graph bytes) b) same is, omega arith))
+          let same : least ≡ time = cc in
+          let some : b ≡ 0 → ⊥ = eqb-false b 0 (neither (eqb b 0) (ltb (longestTime + 1) b) (came .2) .0) in
+          (subst (IsShortest (graph bytes) b) same is, omega arith))
           gives
 
 -- the shortest interval for b is at most t exactly when the demand at t is at least b
@@ -109,6 +111,7 @@ pub calls-agree-none : (bytes : List ℕ) (b amount count : ℕ) (cells area cel
     → ShortestCall bytes b room answer room′
     → 1 ≤ b → b ≤ longestTime + 1 → lines bytes b ≤ length room
     → (answer ≡ shortest-case.Refused 14 0) ↔ (amount < b)
+unfolding ShortestCall
 calls-agree-none bytes b amount count cells area cells′ area′ room room′ answer demand shortest some few enough =
     given (comes-to-answer (judged bytes .answer) (badAmount b) (ltb (length room) (lines bytes b))
     (ShortestRefuses room answer room′) (ShortestAnswers bytes b room answer room′)
@@ -122,16 +125,16 @@ calls-agree-none bytes b amount count cells area cells′ area′ room room′ a
 
     given : ShortestAnswers bytes b room answer room′ → (answer ≡ shortest-case.Refused 14 0) ↔ (amount < b)
     given (filled, (time, is, gives)) =
-        let curve : (time ≡ noTime) ↔ (amount < b) = agree-none (graph bytes) b time some is amount (found .0) in
-        (
+        let curve : (time ≡ noTime) ↔ (amount < b) = agree-none (graph bytes) b time some is amount (found .0) in (
           (λ refused. curve .0 (told-none answer time refused gives)),
-          (λ below. told-refused answer time (curve .1 below) gives)
+          (λ below. told-refused answer time (curve .1 below) gives),
         )
 
 -- both verdicts are the same, wherever each has room enough
 pub verdict-calls-agree : (bytes : List ℕ) (horizon : ℕ) (cells cells′ room room′ : List ℕ) (x y : verdict.VerdictAnswer)
     → VerdictByIntervalCall bytes horizon cells x cells′ → VerdictByAmountCall bytes horizon room y room′
     → lines bytes (horizon + 1) ≤ length cells → lines bytes (horizon + 1) ≤ length room → x ≡ y
+unfolding VerdictCall
 verdict-calls-agree bytes horizon cells cells′ room room′ x y first second enough enough′ =
     begins-alike (judged bytes .answer) (ltb longestTime horizon) false
     (VerdictRefuses cells x cells′) (VerdictRefuses room y room′) _ _ _

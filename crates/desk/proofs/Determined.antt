@@ -40,9 +40,9 @@ lines-unique : (n : ℕ) (Right : ℕ → ℕ → ℕ → Type 0) (one : (line k
 lines-unique n Right one old a b count f g =
     ⊎-elim
     (λ e.
-      let none : n * count ≡ 0 = ap (λ (x : ℕ). x * count) e ∙ zero-mul count in
-      ext-getD 0 a b (f .same-length ∙ sym (g .same-length)) λ place l.
-      f .kept place (omega (arith, none)) ∙ sym (g .kept place (omega (arith, none))))
+    let none : n * count ≡ 0 = ap (λ (x : ℕ). x * count) e ∙ zero-mul count in
+    ext-getD 0 a b (f .same-length ∙ sym (g .same-length)) λ place l.
+    f .kept place (omega (arith, none)) ∙ sym (g .kept place (omega (arith, none))))
     (λ p. filled-unique n Right old one a b (n * count) p f g)
     (eq-zero-or-pos n)
 
@@ -60,10 +60,10 @@ module _ (bytes : List ℕ) (t : ℕ) (cells area : List ℕ) (x y : demand.Dema
   gives-alike amount witness =
       either-alike (ltb (length area) (length witness)) _ _ _ _ _
       (λ (p : (x ≡ demand-case.Refused 13 0) × (area₁ ≡ area)) (q : (y ≡ demand-case.Refused 13 0) × (area₂ ≡ area)).
-        (p .0 ∙ sym (q .0), p .1 ∙ sym (q .1)))
+      (p .0 ∙ sym (q .0), p .1 ∙ sym (q .1)))
       (λ (p : (x ≡ demand-case.Found amount (length witness)) × (area₁ ≡ witness ++ drop (length witness) area))
-        (q : (y ≡ demand-case.Found amount (length witness)) × (area₂ ≡ witness ++ drop (length witness) area)).
-        (p .0 ∙ sym (q .0), p .1 ∙ sym (q .1)))
+      (q : (y ≡ demand-case.Found amount (length witness)) × (area₂ ≡ witness ++ drop (length witness) area)).
+      (p .0 ∙ sym (q .0), p .1 ∙ sym (q .1)))
 
   demand-answered : DemandAnswers bytes t cells area x cells₁ area₁ → DemandAnswers bytes t cells area y cells₂ area₂
       → (x ≡ y) × (cells₁ ≡ cells₂) × (area₁ ≡ area₂)
@@ -71,33 +71,36 @@ module _ (bytes : List ℕ) (t : ℕ) (cells area : List ℕ) (x y : demand.Dema
       let same-amount : amount₂ ≡ amount₁ = demand-unique (graph bytes) t amount₂ amount₁ most₂ most₁ in
       let same-witness : witness₂ ≡ witness₁ = witness-unique (graph bytes) t witness₂ witness₁ first₂ first₁ in
       let gives : DemandGives area y area₂ amount₁ witness₁ =
-          subst (λ (d : ℕ). DemandGives area y area₂ d witness₁) same-amount
-          (subst (λ (w : List ℕ). DemandGives area y area₂ amount₂ w) same-witness gives₂) in
+      subst (λ (d : ℕ). DemandGives area y area₂ d witness₁) same-amount
+      (subst (λ (w : List ℕ). DemandGives area y area₂ amount₂ w) same-witness gives₂) in
       let alike = gives-alike amount₁ witness₁ gives₁ gives in
       (alike .0, by-interval-unique bytes (t + 1) cells cells₁ cells₂ filled₁ filled₂, alike .1)
 
   pub demand-determined : DemandCall bytes t cells area x cells₁ area₁ → DemandCall bytes t cells area y cells₂ area₂
       → (x ≡ y) × (cells₁ ≡ cells₂) × (area₁ ≡ area₂)
+  unfolding DemandCall
   demand-determined =
       begins-alike (judged bytes .answer) (ltb longestTime t) (ltb (length cells) (lines bytes (t + 1)))
       (DemandRefuses cells area x cells₁ area₁) (DemandRefuses cells area y cells₂ area₂) _ _ _
       (λ number place (p : DemandRefuses cells area x cells₁ area₁ number place) (q : DemandRefuses cells area y cells₂ area₂ number place).
-        (p .0 ∙ sym (q .0), p .1 ∙ sym (q .1), p .2 ∙ sym (q .2)))
+      (p .0 ∙ sym (q .0), p .1 ∙ sym (q .1), p .2 ∙ sym (q .2)))
       demand-answered
 
 -- `margin` has one answer, and leaves one content of the cells
 module _ (bytes : List ℕ) (t : ℕ) (cells : List ℕ) (x y : margin.MarginAnswer) (cells₁ cells₂ : List ℕ) where
   margin-answered : MarginAnswers bytes t cells x cells₁ → MarginAnswers bytes t cells y cells₂ → (x ≡ y) × (cells₁ ≡ cells₂)
-  margin-answered (filled₁, (m₁, is₁, gives₁)) (filled₂, (m₂, is₂, gives₂)) =
-      (gives₁ ∙ ap margin-case.Found (margin-unique (graph bytes) (tasks bytes) t m₁ m₂ is₁ is₂) ∙ sym gives₂,
-      by-interval-unique bytes (t + 1) cells cells₁ cells₂ filled₁ filled₂)
+  margin-answered (filled₁, (m₁, is₁, gives₁)) (filled₂, (m₂, is₂, gives₂)) = (
+    gives₁ ∙ ap margin-case.Found (margin-unique (graph bytes) (tasks bytes) t m₁ m₂ is₁ is₂) ∙ sym gives₂,
+    by-interval-unique bytes (t + 1) cells cells₁ cells₂ filled₁ filled₂,
+  )
 
   pub margin-determined : MarginCall bytes t cells x cells₁ → MarginCall bytes t cells y cells₂ → (x ≡ y) × (cells₁ ≡ cells₂)
+  unfolding MarginCall
   margin-determined =
       begins-alike (judged bytes .answer) (ltb longestTime t) (ltb (length cells) (lines bytes (t + 1)))
       (MarginRefuses cells x cells₁) (MarginRefuses cells y cells₂) _ _ _
       (λ number place (p : MarginRefuses cells x cells₁ number place) (q : MarginRefuses cells y cells₂ number place).
-        (p .0 ∙ sym (q .0), p .1 ∙ sym (q .1)))
+      (p .0 ∙ sym (q .0), p .1 ∙ sym (q .1)))
       margin-answered
 
 -- `shortest` has one answer, and leaves one content of the cells
@@ -105,19 +108,21 @@ module _ (bytes : List ℕ) (b : ℕ) (cells : List ℕ) (x y : shortest.Shortes
   shortest-answered : ShortestAnswers bytes b cells x cells₁ → ShortestAnswers bytes b cells y cells₂ → (x ≡ y) × (cells₁ ≡ cells₂)
   shortest-answered (filled₁, (time₁, is₁, gives₁)) (filled₂, (time₂, is₂, gives₂)) =
       let same-time : time₂ ≡ time₁ = shortest-unique (graph bytes) b time₂ time₁ is₂ is₁ in
-      let gives : ShortestGives y time₁ = subst (λ (z : ℕ). ShortestGives y z) same-time gives₂ in
-      (either-alike (eqb time₁ noTime) _ _ _ _ _
-      (λ (p : x ≡ shortest-case.Refused 14 0) (q : y ≡ shortest-case.Refused 14 0). p ∙ sym q)
-      (λ (p : x ≡ shortest-case.Found time₁) (q : y ≡ shortest-case.Found time₁). p ∙ sym q)
-      gives₁ gives,
-      by-amount-unique bytes b cells cells₁ cells₂ filled₁ filled₂)
+      let gives : ShortestGives y time₁ = subst (λ (z : ℕ). ShortestGives y z) same-time gives₂ in (
+        either-alike (eqb time₁ noTime) _ _ _ _ _
+            (λ (p : x ≡ shortest-case.Refused 14 0) (q : y ≡ shortest-case.Refused 14 0). p ∙ sym q)
+            (λ (p : x ≡ shortest-case.Found time₁) (q : y ≡ shortest-case.Found time₁). p ∙ sym q)
+            gives₁ gives,
+        by-amount-unique bytes b cells cells₁ cells₂ filled₁ filled₂,
+      )
 
   pub shortest-determined : ShortestCall bytes b cells x cells₁ → ShortestCall bytes b cells y cells₂ → (x ≡ y) × (cells₁ ≡ cells₂)
+  unfolding ShortestCall
   shortest-determined =
       begins-alike (judged bytes .answer) (badAmount b) (ltb (length cells) (lines bytes b))
       (ShortestRefuses cells x cells₁) (ShortestRefuses cells y cells₂) _ _ _
       (λ number place (p : ShortestRefuses cells x cells₁ number place) (q : ShortestRefuses cells y cells₂ number place).
-        (p .0 ∙ sym (q .0), p .1 ∙ sym (q .1)))
+      (p .0 ∙ sym (q .0), p .1 ∙ sym (q .1)))
       shortest-answered
 
 -- a verdict has one answer and leaves one content of the cells, with either table
@@ -126,17 +131,19 @@ module _ (FilledBy : List ℕ → ℕ → List ℕ → List ℕ → Type 0)
     (bytes : List ℕ) (horizon : ℕ) (cells : List ℕ) (x y : verdict.VerdictAnswer) (cells₁ cells₂ : List ℕ) where
   verdict-answered : VerdictAnswers FilledBy bytes horizon cells x cells₁ → VerdictAnswers FilledBy bytes horizon cells y cells₂
       → (x ≡ y) × (cells₁ ≡ cells₂)
-  verdict-answered (filled₁, (v₁, is₁, gives₁)) (filled₂, (v₂, is₂, gives₂)) =
-      (gives₁ ∙ ap verdictAnswer (verdict-unique (graph bytes) (tasks bytes) horizon v₁ v₂ is₁ is₂) ∙ sym gives₂,
-      one bytes (horizon + 1) cells cells₁ cells₂ filled₁ filled₂)
+  verdict-answered (filled₁, (v₁, is₁, gives₁)) (filled₂, (v₂, is₂, gives₂)) = (
+    gives₁ ∙ ap verdictAnswer (verdict-unique (graph bytes) (tasks bytes) horizon v₁ v₂ is₁ is₂) ∙ sym gives₂,
+    one bytes (horizon + 1) cells cells₁ cells₂ filled₁ filled₂,
+  )
 
   verdict-determined : VerdictCall FilledBy bytes horizon cells x cells₁ → VerdictCall FilledBy bytes horizon cells y cells₂
       → (x ≡ y) × (cells₁ ≡ cells₂)
+  unfolding VerdictCall
   verdict-determined =
       begins-alike (judged bytes .answer) (ltb longestTime horizon) (ltb (length cells) (lines bytes (horizon + 1)))
       (VerdictRefuses cells x cells₁) (VerdictRefuses cells y cells₂) _ _ _
       (λ number place (p : VerdictRefuses cells x cells₁ number place) (q : VerdictRefuses cells y cells₂ number place).
-        (p .0 ∙ sym (q .0), p .1 ∙ sym (q .1)))
+      (p .0 ∙ sym (q .0), p .1 ∙ sym (q .1)))
       verdict-answered
 
 module _ (bytes : List ℕ) (horizon : ℕ) (cells : List ℕ) (x y : verdict.VerdictAnswer) (cells₁ cells₂ : List ℕ) where

@@ -2,3 +2,4 @@ pub mod Beginnings
 pub mod Determined
 pub mod Agreement
 pub mod Telling
+pub mod Calling

@@ -13,11 +13,10 @@ use mir.Facts.{toZ-pos}
 use borrow.Author.Tests.{lt-ltb, le-ltb, eq-eqb, ne-eqb}
 use Rattle.walks.specs.Graph.{Graph}
 use Rattle.walks.specs.Demand.{longestTime, noTime, IsDemand, IsWitness, IsShortest}
-use Rattle.walks.specs.Cells.{IsLeastFrom, ByInterval, ByAmount, Filled}
+use Rattle.walks.specs.Cells.{ByInterval, ByAmount, Filled}
 use Rattle.walks.specs.Fixed.{Task, fixedSum}
 use Rattle.walks.specs.Verdict.{IsMargin, IsVerdict}
 use Rattle.walks.specs.Computed.{cellAt, cellFor, maxBelow, minBelow, witnessOf}
-use Rattle.walks.proofs.ByAmount.{shortest-is}
 use Rattle.walks.proofs.Differences.{sub-is64}
 use Rattle.walks.proofs.Existence.{witness-of}
 use Rattle.walks.proofs.Margins.{difference, margin-sub}
@@ -33,6 +32,7 @@ use Rattle.cells.specs.Lines.{HasLines}
 use Rattle.cells.specs.Sweeping.{IsSwept, verdictOf}
 use Rattle.cells.specs.declared.sweep.Swept.{Swept}
 use Rattle.cells.proofs.Lines.{filled-lines, line-demand}
+use Rattle.cells.proofs.Amounts.{line-shortest}
 use Rattle.desk.specs.Calls.{Either, graph, tasks, lines, FilledByInterval, FilledByAmount, DemandGives, DemandAnswers, MarginAnswers, ShortestGives, ShortestAnswers, VerdictAnswers, verdictAnswer}
 use Rattle.desk.specs.declared.DemandAnswer as demand
 use Rattle.desk.specs.declared.DemandAnswer.the-variants as demand-case
@@ -87,10 +87,18 @@ module _ (bytes : List ℕ) (sheet : Sheet) (is : sheet ≡ judged bytes .sheet)
         → amount ≡ maxBelow (sheet .tally .rows) (cellAt (sheet .tally .rows) new t) → fixed ≡ fixedSum (tasksOf sheet) t → m ≡ pos t -ℤ pos (amount + fixed)
         → MarginAnswers bytes t old (margin-case.Found m) new
     margin-told amount fixed m most sum e =
-        let same-sum : fixed ≡ fixedSum (tasks bytes) t = sum ∙ ap (λ (s : Sheet). fixedSum (tasksOf s) t) is in
-        (by-interval-told (t + 1) old new filled,
-        (m, (amount, demand-told amount most,
-        e ∙ difference t (amount + fixed) ∙ sym (margin-sub t amount fixed) ∙ ap (λ (f : ℕ). pos t -ℤ pos amount -ℤ pos f) same-sum), refl))
+        let same-sum : fixed ≡ fixedSum (tasks bytes) t = sum ∙ ap (λ (s : Sheet). fixedSum (tasksOf s) t) is in (
+          by-interval-told (t + 1) old new filled,
+          (
+            m,
+            (
+              amount,
+              demand-told amount most,
+              e ∙ difference t (amount + fixed) ∙ sym (margin-sub t amount fixed) ∙ ap (λ (f : ℕ). pos t -ℤ pos amount -ℤ pos f) same-sum,
+            ),
+            refl,
+          ),
+        )
 
     witness-told : IsWitness (graph bytes) t (witnessOf (graphOf bytes sheet) t)
     witness-told = subst (λ (s : Sheet). IsWitness (graphOf bytes s) t (witnessOf (graphOf bytes sheet) t)) is (witness-of (graphOf bytes sheet) (ready .sound) t)
@@ -99,20 +107,32 @@ module _ (bytes : List ℕ) (sheet : Sheet) (is : sheet ≡ judged bytes .sheet)
     pub demand-too-long : (amount : ℕ) (area : List ℕ)
         → amount ≡ maxBelow (sheet .tally .rows) (cellAt (sheet .tally .rows) new t) → length area < length (witnessOf (graphOf bytes sheet) t)
         → DemandAnswers bytes t old area (demand-case.Refused 13 0) new area
-    demand-too-long amount area most long =
-        (by-interval-told (t + 1) old new filled,
-        (amount, witnessOf (graphOf bytes sheet) t, demand-told amount most, witness-told,
-        rw (lt-ltb (length area) (length (witnessOf (graphOf bytes sheet) t)) long) (refl, refl)))
+    demand-too-long amount area most long = (
+      by-interval-told (t + 1) old new filled,
+      (
+        amount,
+        witnessOf (graphOf bytes sheet) t,
+        demand-told amount most,
+        witness-told,
+        rw (lt-ltb (length area) (length (witnessOf (graphOf bytes sheet) t)) long) (refl, refl),
+      ),
+    )
 
     -- and with one that is written
     pub demand-written : (amount count : ℕ) (area area′ : List ℕ)
         → amount ≡ maxBelow (sheet .tally .rows) (cellAt (sheet .tally .rows) new t) → count ≡ length (witnessOf (graphOf bytes sheet) t)
         → length (witnessOf (graphOf bytes sheet) t) ≤ length area → area′ ≡ witnessOf (graphOf bytes sheet) t ++ drop (length (witnessOf (graphOf bytes sheet) t)) area
         → DemandAnswers bytes t old area (demand-case.Found amount count) new area′
-    demand-written amount count area area′ most counted fits written =
-        (by-interval-told (t + 1) old new filled,
-        (amount, witnessOf (graphOf bytes sheet) t, demand-told amount most, witness-told,
-        rw (le-ltb (length area) (length (witnessOf (graphOf bytes sheet) t)) fits) (ap (demand-case.Found amount) counted, written)))
+    demand-written amount count area area′ most counted fits written = (
+      by-interval-told (t + 1) old new filled,
+      (
+        amount,
+        witnessOf (graphOf bytes sheet) t,
+        demand-told amount most,
+        witness-told,
+        rw (le-ltb (length area) (length (witnessOf (graphOf bytes sheet) t)) fits) (ap (demand-case.Found amount) counted, written),
+      ),
+    )
 
   module _ (b : ℕ) (some : 1 ≤ b) (old new : List ℕ) (room : sheet .tally .rows * b ≤ length old)
       (filled : Filled (sheet .tally .rows) (ByAmount (graphOf bytes sheet)) old new (sheet .tally .rows * b)) where
@@ -120,12 +140,9 @@ module _ (bytes : List ℕ) (sheet : Sheet) (is : sheet ≡ judged bytes .sheet)
     shortest-told : (time : ℕ) → time ≡ minBelow (sheet .tally .rows) noTime (cellFor (sheet .tally .rows) new b) → IsShortest (graph bytes) b time
     unfolding graphOf
     shortest-told time e =
-        let table = filled-lines (sheet .tally .rows) (ByAmount (graphOf bytes sheet)) b old new room filled in
-        let line : b - 1 + 1 ≡ b = omega arith in
         subst (λ (s : Sheet). IsShortest (graphOf bytes s) b time) is
         (subst (IsShortest (graphOf bytes sheet) b) (sym e)
-        (shortest-is (graphOf bytes sheet) b (cellFor (sheet .tally .rows) new b)
-        (λ k h. subst (λ (a : ℕ). IsLeastFrom (graphOf bytes sheet) k a (cellFor (sheet .tally .rows) new b k)) line (table .right (b - 1) k (omega arith) h))))
+        (line-shortest (graphOf bytes sheet) new b (filled-lines (sheet .tally .rows) (ByAmount (graphOf bytes sheet)) b old new room filled) b some (omega arith)))
 
     -- what `shortest` answers, read off the last line
     pub shortest-answers : (time : ℕ) (answer : shortest.ShortestAnswer)
@@ -138,22 +155,30 @@ module _ (bytes : List ℕ) (sheet : Sheet) (is : sheet ≡ judged bytes .sheet)
       → Filled (sheet .tally .rows) (ByInterval (graphOf bytes sheet)) old new (sheet .tally .rows * (horizon + 1))
       → (swept : Swept) → IsSwept ByInterval sheet new horizon swept
       → (answer : verdict.VerdictAnswer) → answer ≡ verdictAnswer (verdictOf swept) → VerdictAnswers FilledByInterval bytes horizon old answer new
-  verdict-by-interval-told horizon old new room filled swept says answer e =
-      (by-interval-told (horizon + 1) old new filled,
-      (verdictOf swept,
+  verdict-by-interval-told horizon old new room filled swept says answer e = (
+    by-interval-told (horizon + 1) old new filled,
+    (
+      verdictOf swept,
       subst (λ (s : Sheet). IsVerdict (graphOf bytes s) (tasksOf s) horizon (verdictOf swept)) is
-      (says bytes ready (filled-lines (sheet .tally .rows) (ByInterval (graphOf bytes sheet)) (horizon + 1) old new room filled)), e))
+          (says bytes ready (filled-lines (sheet .tally .rows) (ByInterval (graphOf bytes sheet)) (horizon + 1) old new room filled)),
+      e,
+    ),
+  )
 
   -- and by amount
   pub verdict-by-amount-told : (horizon : ℕ) (old new : List ℕ) → sheet .tally .rows * (horizon + 1) ≤ length old
       → Filled (sheet .tally .rows) (ByAmount (graphOf bytes sheet)) old new (sheet .tally .rows * (horizon + 1))
       → (swept : Swept) → IsSwept ByAmount sheet new horizon swept
       → (answer : verdict.VerdictAnswer) → answer ≡ verdictAnswer (verdictOf swept) → VerdictAnswers FilledByAmount bytes horizon old answer new
-  verdict-by-amount-told horizon old new room filled swept says answer e =
-      (by-amount-told (horizon + 1) old new filled,
-      (verdictOf swept,
+  verdict-by-amount-told horizon old new room filled swept says answer e = (
+    by-amount-told (horizon + 1) old new filled,
+    (
+      verdictOf swept,
       subst (λ (s : Sheet). IsVerdict (graphOf bytes s) (tasksOf s) horizon (verdictOf swept)) is
-      (says bytes ready (filled-lines (sheet .tally .rows) (ByAmount (graphOf bytes sheet)) (horizon + 1) old new room filled)), e))
+          (says bytes ready (filled-lines (sheet .tally .rows) (ByAmount (graphOf bytes sheet)) (horizon + 1) old new room filled)),
+      e,
+    ),
+  )
 
 -- no time is 14, and any other is found
 pub gives-none : (time : ℕ) → time ≡ noTime → ShortestGives (shortest-case.Refused 14 0) time

@@ -77,7 +77,7 @@ DemandAnswers bytes t cells area answer cells′ area′ =
     × ((amount : ℕ) × (witness : List ℕ) × IsDemand (graph bytes) t amount × IsWitness (graph bytes) t witness
     × DemandGives area answer area′ amount witness)
 
-abbrev pub DemandCall : List ℕ → ℕ → List ℕ → List ℕ → demand.DemandAnswer → List ℕ → List ℕ → Type 0
+unfoldable pub DemandCall : List ℕ → ℕ → List ℕ → List ℕ → demand.DemandAnswer → List ℕ → List ℕ → Type 0
 DemandCall bytes t cells area answer cells′ area′ =
     Begins (judged bytes .answer) (ltb longestTime t) (ltb (length cells) (lines bytes (t + 1)))
     (DemandRefuses cells area answer cells′ area′) (DemandAnswers bytes t cells area answer cells′ area′)
@@ -91,7 +91,7 @@ MarginAnswers bytes t cells answer cells′ =
     FilledByInterval bytes (t + 1) cells cells′
     × ((m : ℤ) × IsMargin (graph bytes) (tasks bytes) t m × (answer ≡ margin-case.Found m))
 
-abbrev pub MarginCall : List ℕ → ℕ → List ℕ → margin.MarginAnswer → List ℕ → Type 0
+unfoldable pub MarginCall : List ℕ → ℕ → List ℕ → margin.MarginAnswer → List ℕ → Type 0
 MarginCall bytes t cells answer cells′ =
     Begins (judged bytes .answer) (ltb longestTime t) (ltb (length cells) (lines bytes (t + 1)))
     (MarginRefuses cells answer cells′) (MarginAnswers bytes t cells answer cells′)
@@ -113,7 +113,7 @@ ShortestAnswers bytes b cells answer cells′ =
     FilledByAmount bytes b cells cells′
     × ((time : ℕ) × IsShortest (graph bytes) b time × ShortestGives answer time)
 
-abbrev pub ShortestCall : List ℕ → ℕ → List ℕ → shortest.ShortestAnswer → List ℕ → Type 0
+unfoldable pub ShortestCall : List ℕ → ℕ → List ℕ → shortest.ShortestAnswer → List ℕ → Type 0
 ShortestCall bytes b cells answer cells′ =
     Begins (judged bytes .answer) (badAmount b) (ltb (length cells) (lines bytes b))
     (ShortestRefuses cells answer cells′) (ShortestAnswers bytes b cells answer cells′)
@@ -132,7 +132,7 @@ VerdictAnswers FilledBy bytes horizon cells answer cells′ =
     FilledBy bytes (horizon + 1) cells cells′
     × ((v : Verdict) × IsVerdict (graph bytes) (tasks bytes) horizon v × (answer ≡ verdictAnswer v))
 
-abbrev pub VerdictCall : (List ℕ → ℕ → List ℕ → List ℕ → Type 0) → List ℕ → ℕ → List ℕ → verdict.VerdictAnswer → List ℕ → Type 0
+unfoldable pub VerdictCall : (List ℕ → ℕ → List ℕ → List ℕ → Type 0) → List ℕ → ℕ → List ℕ → verdict.VerdictAnswer → List ℕ → Type 0
 VerdictCall FilledBy bytes horizon cells answer cells′ =
     Begins (judged bytes .answer) (ltb longestTime horizon) (ltb (length cells) (lines bytes (horizon + 1)))
     (VerdictRefuses cells answer cells′) (VerdictAnswers FilledBy bytes horizon cells answer cells′)

@@ -26,7 +26,13 @@ ghost use Rattle.cells.specs.Sweeping.{verdictOf};
 ghost use Rattle.desk.specs.Calls.{lines, DemandAnswers, MarginAnswers, ShortestAnswers, VerdictAnswers, FilledByInterval, FilledByAmount, verdictAnswer};
 
 // The table by interval, then the largest cell of its last line and the witness, which is counted before it is written.
-pub(crate) fn demand_in(bytes: &[u8], sheet: Sheet, t: usize, cells: &mut [u32], area: &mut [u8]) -> DemandAnswer
+pub(crate) fn demand_in(
+    bytes: &[u8],
+    sheet: Sheet,
+    t: usize,
+    cells: &mut [u32],
+    area: &mut [u8],
+) -> DemandAnswer
     requires { ⌜ Ready (now bytes) sheet ⌝ }
     requires { ⌜ sheet ≡ judged (now bytes) .sheet ⌝ }
     requires { ⌜ t ≤ longestTime ⌝ }
@@ -38,10 +44,16 @@ pub(crate) fn demand_in(bytes: &[u8], sheet: Sheet, t: usize, cells: &mut [u32],
     let amount = demand_of(cells, tally.rows, t);
     let count = witness_count(bytes, sheet, cells, t);
     if area.len() < count {
-        return DemandAnswer::Refused { number: 13, place: 0 };
+        return DemandAnswer::Refused {
+            number: 13,
+            place: 0,
+        };
     }
     write_witness(bytes, sheet, cells, t, area);
-    DemandAnswer::Found { amount: amount, count: count }
+    DemandAnswer::Found {
+        amount: amount,
+        count: count,
+    }
 }
 
 // The table by interval, then what both demands leave of the interval.
@@ -61,7 +73,12 @@ pub(crate) fn margin_in(bytes: &[u8], sheet: Sheet, t: usize, cells: &mut [u32])
 }
 
 // The table by amount, then the smallest time of its last line.
-pub(crate) fn shortest_in(bytes: &[u8], sheet: Sheet, amount: usize, cells: &mut [u32]) -> ShortestAnswer
+pub(crate) fn shortest_in(
+    bytes: &[u8],
+    sheet: Sheet,
+    amount: usize,
+    cells: &mut [u32],
+) -> ShortestAnswer
     requires { ⌜ Ready (now bytes) sheet ⌝ }
     requires { ⌜ sheet ≡ judged (now bytes) .sheet ⌝ }
     requires { ⌜ 1 ≤ amount ⌝ }
@@ -72,13 +89,21 @@ pub(crate) fn shortest_in(bytes: &[u8], sheet: Sheet, amount: usize, cells: &mut
     let tally = sheet.tally;
     let time = shortest_of(cells, tally.rows, amount);
     if time == NO_TIME {
-        return ShortestAnswer::Refused { number: 14, place: 0 };
+        return ShortestAnswer::Refused {
+            number: 14,
+            place: 0,
+        };
     }
     ShortestAnswer::Found { time: time }
 }
 
 // The table by interval, all of it, then the first interval that it shows to be overrun.
-pub(crate) fn verdict_by_interval_in(bytes: &[u8], sheet: Sheet, horizon: usize, cells: &mut [u32]) -> VerdictAnswer
+pub(crate) fn verdict_by_interval_in(
+    bytes: &[u8],
+    sheet: Sheet,
+    horizon: usize,
+    cells: &mut [u32],
+) -> VerdictAnswer
     requires { ⌜ Ready (now bytes) sheet ⌝ }
     requires { ⌜ sheet ≡ judged (now bytes) .sheet ⌝ }
     requires { ⌜ horizon ≤ longestTime ⌝ }
@@ -91,7 +116,12 @@ pub(crate) fn verdict_by_interval_in(bytes: &[u8], sheet: Sheet, horizon: usize,
 }
 
 // The table by amount, all of it, then the first interval that it shows to be overrun.
-pub(crate) fn verdict_by_amount_in(bytes: &[u8], sheet: Sheet, horizon: usize, cells: &mut [u32]) -> VerdictAnswer
+pub(crate) fn verdict_by_amount_in(
+    bytes: &[u8],
+    sheet: Sheet,
+    horizon: usize,
+    cells: &mut [u32],
+) -> VerdictAnswer
     requires { ⌜ Ready (now bytes) sheet ⌝ }
     requires { ⌜ sheet ≡ judged (now bytes) .sheet ⌝ }
     requires { ⌜ horizon ≤ longestTime ⌝ }

@@ -44,7 +44,10 @@ fn begin(bytes: &[u8], beyond: bool, lines: usize, room: usize) -> Judged
     let sheet = judged.sheet;
     let tally = sheet.tally;
     match answer {
-        Answer::Refused { number: _, place: _ } => judged,
+        Answer::Refused {
+            number: _,
+            place: _,
+        } => judged,
         Answer::Accepted => {
             if beyond {
                 return refused(11);
@@ -62,5 +65,11 @@ fn refused(number: u8) -> Judged
     ensures { λ r. ⌜ r .answer ≡ Refused number 0 ⌝ }
 {
     let sheet = Sheet::empty();
-    Judged { answer: Answer::Refused { number: number, place: 0 }, sheet: sheet }
+    Judged {
+        answer: Answer::Refused {
+            number: number,
+            place: 0,
+        },
+        sheet: sheet,
+    }
 }

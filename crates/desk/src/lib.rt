@@ -1,6 +1,7 @@
 // The public calls: each takes the sheet's bytes, reads them itself, works in lent memory and answers for any bytes and any numbers.
 mod answering;
 mod beginning;
+
 use answering::demand_in;
 use answering::margin_in;
 use answering::shortest_in;
@@ -13,48 +14,27 @@ ghost use Rattle.desk.specs.Calls.{DemandCall, MarginCall, ShortestCall,
 
 // The demand at an interval, and how many rows its witness has.
 pub enum DemandAnswer {
-    Found {
-        amount: u32,
-        count: usize,
-    },
-    Refused {
-        number: u8,
-        place: usize,
-    },
+    Found { amount: u32, count: usize },
+    Refused { number: u8, place: usize },
 }
 
 // The margin at an interval, below 0 where it is overrun.
 pub enum MarginAnswer {
-    Found {
-        margin: i64,
-    },
-    Refused {
-        number: u8,
-        place: usize,
-    },
+    Found { margin: i64 },
+    Refused { number: u8, place: usize },
 }
 
 // The shortest interval for an amount.
 pub enum ShortestAnswer {
-    Found {
-        time: u32,
-    },
-    Refused {
-        number: u8,
-        place: usize,
-    },
+    Found { time: u32 },
+    Refused { number: u8, place: usize },
 }
 
 // Whether every interval up to a horizon is met, or the first that is overrun.
 pub enum VerdictAnswer {
     Holds,
-    Overrun {
-        interval: u64,
-    },
-    Refused {
-        number: u8,
-        place: usize,
-    },
+    Overrun { interval: u64 },
+    Refused { number: u8, place: usize },
 }
 
 // The demand at an interval. Its witness goes to the area, one row number a byte.
@@ -66,11 +46,12 @@ pub fn demand(bytes: &[u8], interval: u64, cells: &mut [u32], area: &mut [u8]) -
     let sheet = begun.sheet;
     match answer {
         Answer::Refused { number, place } => {
-            DemandAnswer::Refused { number: number, place: place }
+            DemandAnswer::Refused {
+                number: number,
+                place: place,
+            }
         }
-        Answer::Accepted => {
-            demand_in(bytes, sheet, interval as usize, cells, area)
-        }
+        Answer::Accepted => { demand_in(bytes, sheet, interval as usize, cells, area) }
     }
 }
 
@@ -83,11 +64,12 @@ pub fn margin(bytes: &[u8], interval: u64, cells: &mut [u32]) -> MarginAnswer
     let sheet = begun.sheet;
     match answer {
         Answer::Refused { number, place } => {
-            MarginAnswer::Refused { number: number, place: place }
+            MarginAnswer::Refused {
+                number: number,
+                place: place,
+            }
         }
-        Answer::Accepted => {
-            margin_in(bytes, sheet, interval as usize, cells)
-        }
+        Answer::Accepted => { margin_in(bytes, sheet, interval as usize, cells) }
     }
 }
 
@@ -100,11 +82,12 @@ pub fn verdict_by_interval(bytes: &[u8], horizon: u64, cells: &mut [u32]) -> Ver
     let sheet = begun.sheet;
     match answer {
         Answer::Refused { number, place } => {
-            VerdictAnswer::Refused { number: number, place: place }
+            VerdictAnswer::Refused {
+                number: number,
+                place: place,
+            }
         }
-        Answer::Accepted => {
-            verdict_by_interval_in(bytes, sheet, horizon as usize, cells)
-        }
+        Answer::Accepted => { verdict_by_interval_in(bytes, sheet, horizon as usize, cells) }
     }
 }
 
@@ -117,11 +100,12 @@ pub fn shortest(bytes: &[u8], amount: u64, cells: &mut [u32]) -> ShortestAnswer
     let sheet = begun.sheet;
     match answer {
         Answer::Refused { number, place } => {
-            ShortestAnswer::Refused { number: number, place: place }
+            ShortestAnswer::Refused {
+                number: number,
+                place: place,
+            }
         }
-        Answer::Accepted => {
-            shortest_in(bytes, sheet, amount as usize, cells)
-        }
+        Answer::Accepted => { shortest_in(bytes, sheet, amount as usize, cells) }
     }
 }
 
@@ -134,10 +118,11 @@ pub fn verdict_by_amount(bytes: &[u8], horizon: u64, cells: &mut [u32]) -> Verdi
     let sheet = begun.sheet;
     match answer {
         Answer::Refused { number, place } => {
-            VerdictAnswer::Refused { number: number, place: place }
+            VerdictAnswer::Refused {
+                number: number,
+                place: place,
+            }
         }
-        Answer::Accepted => {
-            verdict_by_amount_in(bytes, sheet, horizon as usize, cells)
-        }
+        Answer::Accepted => { verdict_by_amount_in(bytes, sheet, horizon as usize, cells) }
     }
 }

@@ -125,35 +125,41 @@ refused-by-14 bytes b answer number is-14 none cells cells′ (filled, (time, le
     ap (λ (a : ShortestAnswer). shortestNumbers a .number) (told-refused answer time no-time gives) ∙ sym is-14
 
 law : (c : Case) → T (right c) → Holds c
+unfolding ShortestCall
 law (demand bytes t d) h =
-    let parts = both (accepts bytes) _ h in
-    (accepted bytes (parts .0),
-    subst (IsDemand (graph bytes) t) (eqb→eq _ d (parts .1)) (demand-of (graph bytes) (sound bytes (parts .0)) t))
+    let parts = both (accepts bytes) _ h in (
+      accepted bytes (parts .0),
+      subst (IsDemand (graph bytes) t) (eqb→eq _ d (parts .1)) (demand-of (graph bytes) (sound bytes (parts .0)) t),
+    )
 law (witness bytes t d rows) h =
     let parts = both (accepts bytes) _ h in
-    let values = both (eqb (demandOf (graph bytes) t) d) _ (parts .1) in
-    (accepted bytes (parts .0),
-    subst (IsDemand (graph bytes) t) (eqb→eq _ d (values .0)) (demand-of (graph bytes) (sound bytes (parts .0)) t),
-    subst (IsWitness (graph bytes) t) (same-rows _ rows (values .1)) (witness-of (graph bytes) (sound bytes (parts .0)) t))
+    let values = both (eqb (demandOf (graph bytes) t) d) _ (parts .1) in (
+      accepted bytes (parts .0),
+      subst (IsDemand (graph bytes) t) (eqb→eq _ d (values .0)) (demand-of (graph bytes) (sound bytes (parts .0)) t),
+      subst (IsWitness (graph bytes) t) (same-rows _ rows (values .1)) (witness-of (graph bytes) (sound bytes (parts .0)) t),
+    )
 law (shortest bytes b time) h =
-    let parts = both (accepts bytes) _ h in
-    (accepted bytes (parts .0),
-    subst (IsShortest (graph bytes) b) (eqb→eq _ time (parts .1)) (shortest-of (graph bytes) (sound bytes (parts .0)) b))
+    let parts = both (accepts bytes) _ h in (
+      accepted bytes (parts .0),
+      subst (IsShortest (graph bytes) b) (eqb→eq _ time (parts .1)) (shortest-of (graph bytes) (sound bytes (parts .0)) b),
+    )
 law (refused bytes b number) h =
     let parts = both (accepts bytes) _ h in
     let values = both (eqb number 14) _ (parts .1) in
     let asked = both (not (badAmount b)) _ (values .1) in
-    let none : IsShortest (graph bytes) b noTime = subst (IsShortest (graph bytes) b) (eqb→eq _ noTime (asked .1)) (shortest-of (graph bytes) (sound bytes (parts .0)) b) in
-    (accepted bytes (parts .0),
-    λ cells cells′ answer enough call.
-    refused-by-14 bytes b answer number (eqb→eq number 14 (values .0)) none cells cells′
-    (comes-to-answer (judged bytes .answer) (badAmount b) (ltb (length cells) (lines bytes b))
-    (ShortestRefuses cells answer cells′) (ShortestAnswers bytes b cells answer cells′)
-    (accepted bytes (parts .0)) (is-false (badAmount b) (asked .0)) (le-ltb (length cells) (lines bytes b) enough) call))
+    let none : IsShortest (graph bytes) b noTime = subst (IsShortest (graph bytes) b) (eqb→eq _ noTime (asked .1)) (shortest-of (graph bytes) (sound bytes (parts .0)) b) in (
+      accepted bytes (parts .0),
+      λ cells cells′ answer enough call.
+          refused-by-14 bytes b answer number (eqb→eq number 14 (values .0)) none cells cells′
+          (comes-to-answer (judged bytes .answer) (badAmount b) (ltb (length cells) (lines bytes b))
+          (ShortestRefuses cells answer cells′) (ShortestAnswers bytes b cells answer cells′)
+          (accepted bytes (parts .0)) (is-false (badAmount b) (asked .0)) (le-ltb (length cells) (lines bytes b) enough) call),
+    )
 law (margin bytes t m) h =
-    let parts = both (accepts bytes) _ h in
-    (accepted bytes (parts .0),
-    subst (IsMargin (graph bytes) (tasks bytes) t) (same-signed _ m (parts .1)) (margin-of (graph bytes) (sound bytes (parts .0)) (tasks bytes) t))
+    let parts = both (accepts bytes) _ h in (
+      accepted bytes (parts .0),
+      subst (IsMargin (graph bytes) (tasks bytes) t) (same-signed _ m (parts .1)) (margin-of (graph bytes) (sound bytes (parts .0)) (tasks bytes) t),
+    )
 
 all : (table : List Case) → T (every table) → All table
 all [] t = tt

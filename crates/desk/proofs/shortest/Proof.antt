@@ -1,38 +1,43 @@
-use borrow.Author.Needs.{needs}
+-- `shortest` meets its contract: it refuses as it begins, or answers as `shortest_in` does.
+use Rattle.desk.proofs.Calling.{GoesOn, goes-on, room-enough, shortest-refused, shortest-answered, amount-some}
 use Rattle.desk.proofs.shortest.Statement.{statement}
+use Rattle.desk.specs.Calls.{badAmount}
+use Rattle.sheet.specs.Deciding.{_or_}
+use borrow.Author.Needs.{needs}
+use denote.Ref.{now}
+use lib.ListN.{length}
+use native.Mathlib.Omega.{arith}
 use Rattle.desk.proofs.shortest.Tie as tie
-use Rattle.desk.proofs.shortest.Reads as reads
-use Rattle.desk.proofs.shortest.Lts as lts
-use Rattle.desk.proofs.answering.shortest_in.Reads as shortest-in-reads
-use Rattle.desk.proofs.beginning.begin_amount.Reads as begin-amount-reads
 
--- src/lib.rt:115:9
 begin-amount-requires : tie.Need-begin-amount-requires
 begin-amount-requires c κs = search needs
 
--- src/lib.rt:119:27
 enum-known-answer : tie.Need-enum-known-answer
 enum-known-answer c = search needs
 
--- src/lib.rt:123:39
 enum-told : tie.Need-enum-told
 enum-told c = search needs
 
--- src/lib.rt:123:13
+-- what is known where the call goes on
+going : (c : tie.After-enum-told) →
+    let a = c .before .before .before .before .before .before .args in
+    GoesOn (now (a .bytes)) (badAmount (a .amount)) (a .amount) (length (now (a .cells))) (c .before .before .before .begin-amount .result)
+going c =
+    goes-on _ _ _ _ _ (λ i. omega (arith, c .before .before .before .before .before .shared-slice-known .given i)) (c .before .before .before .begin-amount .ensures) (c .enum-told .given .1)
+
 shortest-in-requires : tie.Need-shortest-in-requires
-shortest-in-requires c κs = ?
+shortest-in-requires c κs =
+    let g = going (c .before) in
+    (g .ready, (g .same, (amount-some _ (g .in-range), room-enough _ _ _ _ _ g)))
 
--- src/lib.rt:112:1
 returns : tie.Need-returns
-returns c = ?
+returns c = shortest-refused _ _ _ (c .before .before .before .before .begin-amount .result) _ _ (c .before .before .before .before .begin-amount .ensures) (c .before .answer .given .1)
 
--- src/lib.rt:112:1
 same-length : tie.Need-same-length
 same-length c = search needs
 
--- src/lib.rt:112:1
 returns-2 : tie.Need-returns-2
-returns-2 c = ?
+returns-2 c = shortest-answered _ _ _ _ _ _ (going (c .before .before .before .before)) (c .before .before .shortest-in .ensures)
 
 pub shortest-spec : {M : Type 1} → statement M
 shortest-spec =

@@ -9,7 +9,7 @@ use Rattle.walks.specs.Cells.{ByInterval}
 use Rattle.sheet.specs.Limits.{rowLimit}
 use Rattle.sheet.specs.Meaning.{graphOf}
 use Rattle.cells.proofs.Lines.{Upto, upto-start, upto-done, upto-filled, upto-line, upto-inside, upto-room, upto-next, upto-turn}
-use Rattle.cells.proofs.NextCells.{next-is, next-fits}
+use Rattle.cells.proofs.SheetTables.{next-is, next-fits}
 use Rattle.cells.proofs.interval.fill_by_interval.Statement.{statement}
 use Rattle.cells.proofs.interval.fill_by_interval.Tie as tie
 

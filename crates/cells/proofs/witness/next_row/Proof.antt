@@ -74,7 +74,7 @@ returns c =
     let next = c .before .before .before .before in
     let l = next .before .before .before in
     let b = l .before .before .before in
-    leading-is _ _ _ (b .pre .0) (set-fits b) _ _ _ (b .pre .1 .1) _ (next-is next .is-in) (sym (adds (c .before)) ∙ c .if1 .taken)
+    leading-is _ _ _ (b .pre .0) (set-fits b) _ _ _ (b .pre .1 .1) _ (next-is next .is-in, sym (adds (c .before)) ∙ c .if1 .taken)
     (sought-none _ _ _ _ _ _ _ _ _ (l .loop .inv) _ (next-is next .clear))
 
 add-place : tie.Need-add-place Inv-loop μ-loop

@@ -15,9 +15,11 @@ fill-by-amount-requires c κs =
 
 shortest-of-requires : tie.Need-shortest-of-requires
 shortest-of-requires c κs =
-    let s = c .before .before .before .before .before .before .before .before in
-    (s .pre .1 .1 .0, subst (λ (x : ℕ). s .args .sheet .tally .rows * s .args .amount ≤ x) (sym (c .before .before .before .before .fill-by-amount .ensures .same-length))
-    (room-told _ _ (s .pre .1 .0) (s .pre .0) (s .args .amount) (now (s .args .cells)) (s .pre .1 .1 .1)))
+    let s = c .before .before .before .before .before .before .before .before in (
+      s .pre .1 .1 .0,
+      subst (λ (x : ℕ). s .args .sheet .tally .rows * s .args .amount ≤ x) (sym (c .before .before .before .before .fill-by-amount .ensures .same-length))
+          (room-told _ _ (s .pre .1 .0) (s .pre .0) (s .args .amount) (now (s .args .cells)) (s .pre .1 .1 .1)),
+    )
 
 same-length : tie.Need-same-length
 same-length c = search needs

@@ -1,35 +1,43 @@
-use borrow.Author.Needs.{needs}
+-- `verdict_by_amount_in` meets its contract: all lines are filled, and the sweep over them gives the verdict.
+use Prim.Native.Nat.{ℕ, _+_, _*_, _≤_}
+use Rattle.desk.proofs.Telling.{room-told, verdict-by-amount-told}
 use Rattle.desk.proofs.answering.verdict_by_amount_in.Statement.{statement}
+use Rattle.sheet.specs.Deciding.{_or_}
+use borrow.Author.Needs.{needs}
+use denote.Ref.{now}
+use mathlib.Core.Path.{sym, subst}
 use Rattle.desk.proofs.answering.verdict_by_amount_in.Tie as tie
-use Rattle.desk.proofs.answering.verdict_by_amount_in.Reads as reads
-use Rattle.desk.proofs.answering.verdict_by_amount_in.Lts as lts
-use Rattle.cells.proofs.amount.fill_by_amount.Reads as fill-by-amount-reads
-use Rattle.cells.proofs.sweep.sweep_by_amount.Reads as sweep-by-amount-reads
-use Rattle.desk.proofs.answering.as_answer.Reads as as-answer-reads
 
--- src/answering.rt:101:41
 add-fill-by-amount : tie.Need-add-fill-by-amount
 add-fill-by-amount c = search needs
 
--- src/answering.rt:101:5
 fill-by-amount-requires : tie.Need-fill-by-amount-requires
-fill-by-amount-requires c κs = ?
+fill-by-amount-requires c κs =
+    let s = c .before .before .before in
+    (s .pre .0, room-told _ _ (s .pre .1 .0) (s .pre .0) (s .args .horizon + 1) (now (s .args .cells)) (s .pre .1 .1 .1))
 
--- src/answering.rt:102:9
 sweep-by-amount-requires : tie.Need-sweep-by-amount-requires
-sweep-by-amount-requires c κs = ?
+sweep-by-amount-requires c κs =
+    let s = c .before .before .before .before .before .before .before in (
+      (_, s .pre .0 .proper),
+      (
+        s .pre .1 .1 .0,
+        subst (λ (x : ℕ). s .args .sheet .tally .rows * (s .args .horizon + 1) ≤ x) (sym (c .before .before .before .fill-by-amount .ensures .same-length))
+            (room-told _ _ (s .pre .1 .0) (s .pre .0) (s .args .horizon + 1) (now (s .args .cells)) (s .pre .1 .1 .1)),
+      ),
+    )
 
--- src/answering.rt:103:5
 as-answer-requires : tie.Need-as-answer-requires
 as-answer-requires c κs = search needs
 
--- src/answering.rt:94:1
 same-length : tie.Need-same-length
 same-length c = search needs
 
--- src/answering.rt:94:1
 returns : tie.Need-returns
-returns c = ?
+returns c =
+    let s = c .before .before .before .before .before .before .before .before .before in
+    verdict-by-amount-told _ _ (s .pre .1 .0) (s .pre .0) _ _ _ (room-told _ _ (s .pre .1 .0) (s .pre .0) (s .args .horizon + 1) (now (s .args .cells)) (s .pre .1 .1 .1)) (c .before .before .before .before .before .fill-by-amount .ensures)
+    (c .before .sweep-by-amount .result) (c .before .sweep-by-amount .ensures) _ (c .as-answer .ensures)
 
 pub verdict-by-amount-in-spec : {M : Type 1} → statement M
 verdict-by-amount-in-spec =

@@ -1,31 +1,40 @@
-use borrow.Author.Needs.{needs}
+-- `verdict_by_interval_in` meets its contract: all lines are filled, and the sweep over them gives the verdict.
+use Prim.Native.Nat.{ℕ, _+_, _*_, _≤_}
+use Rattle.desk.proofs.Telling.{room-told, verdict-by-interval-told}
 use Rattle.desk.proofs.answering.verdict_by_interval_in.Statement.{statement}
+use Rattle.sheet.specs.Deciding.{_or_}
+use borrow.Author.Needs.{needs}
+use denote.Ref.{now}
+use mathlib.Core.Path.{sym, subst}
 use Rattle.desk.proofs.answering.verdict_by_interval_in.Tie as tie
-use Rattle.desk.proofs.answering.verdict_by_interval_in.Reads as reads
-use Rattle.desk.proofs.answering.verdict_by_interval_in.Lts as lts
-use Rattle.cells.proofs.interval.fill_by_interval.Reads as fill-by-interval-reads
-use Rattle.cells.proofs.sweep.sweep_by_interval.Reads as sweep-by-interval-reads
-use Rattle.desk.proofs.answering.as_answer.Reads as as-answer-reads
 
--- src/answering.rt:88:5
 fill-by-interval-requires : tie.Need-fill-by-interval-requires
-fill-by-interval-requires c κs = ?
+fill-by-interval-requires c κs =
+    let s = c .before .before .before in
+    (s .pre .0, (s .pre .1 .1 .0, room-told _ _ (s .pre .1 .0) (s .pre .0) (s .args .horizon + 1) (now (s .args .cells)) (s .pre .1 .1 .1)))
 
--- src/answering.rt:89:9
 sweep-by-interval-requires : tie.Need-sweep-by-interval-requires
-sweep-by-interval-requires c κs = ?
+sweep-by-interval-requires c κs =
+    let s = c .before .before .before .before .before .before .before in (
+      (_, s .pre .0 .proper),
+      (
+        s .pre .1 .1 .0,
+        subst (λ (x : ℕ). s .args .sheet .tally .rows * (s .args .horizon + 1) ≤ x) (sym (c .before .before .before .fill-by-interval .ensures .same-length))
+            (room-told _ _ (s .pre .1 .0) (s .pre .0) (s .args .horizon + 1) (now (s .args .cells)) (s .pre .1 .1 .1)),
+      ),
+    )
 
--- src/answering.rt:90:5
 as-answer-requires : tie.Need-as-answer-requires
 as-answer-requires c κs = search needs
 
--- src/answering.rt:81:1
 same-length : tie.Need-same-length
 same-length c = search needs
 
--- src/answering.rt:81:1
 returns : tie.Need-returns
-returns c = ?
+returns c =
+    let s = c .before .before .before .before .before .before .before .before .before in
+    verdict-by-interval-told _ _ (s .pre .1 .0) (s .pre .0) _ _ _ (room-told _ _ (s .pre .1 .0) (s .pre .0) (s .args .horizon + 1) (now (s .args .cells)) (s .pre .1 .1 .1)) (c .before .before .before .before .before .fill-by-interval .ensures)
+    (c .before .sweep-by-interval .result) (c .before .sweep-by-interval .ensures) _ (c .as-answer .ensures)
 
 pub verdict-by-interval-in-spec : {M : Type 1} → statement M
 verdict-by-interval-in-spec =

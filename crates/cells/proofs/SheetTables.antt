@@ -1,4 +1,4 @@
--- The cell that comes next in an area that is filled by interval up to it.
+-- The cell by interval of a sheet that comes next in an area that is filled up to it.
 use mathlib.Core.Path.{_≡_}
 use mathlib.Core.List.{List}
 use Prim.Native.Nat.{ℕ, _+_, _*_, _^_, _≤_, _<_}
