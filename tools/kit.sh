@@ -26,7 +26,7 @@ build() {
     shift
     if is_built "$file"; then return; fi
     say "building: rt $* proves it and what it stands on"
-    (cd "$home" && rt "$@") 2>&1 | sed -u -n "s/^rt: /$name: /p" >&2 || stop "rt $* failed; target/log has what it said"
+    (cd "$home" && rt "$@") 2>&1 | sed -u -n "s|^rt: |$name: |p" >&2 || stop "rt $* failed; target/log has what it said"
     touch "$file"
     say "built in $((SECONDS - began)) s"
 }

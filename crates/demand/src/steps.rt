@@ -1,7 +1,6 @@
 // What is printed: up to which horizon, and at which intervals demand rises.
 use cells::interval::demand_of;
 use sheet::values::Sheet;
-
 ghost use Prim.Native.Nat.{_+_, _*_, _≤_};
 ghost use lib.ListN.{length};
 ghost use Rattle.walks.specs.Demand.{longestTime};

@@ -44,7 +44,12 @@ pub extern "C" fn marnipode_field_at(bytes: &[u8], at: usize) -> FieldNumbers
 }
 
 #[no_mangle]
-pub extern "C" fn marnipode_demand(bytes: &[u8], interval: u64, cells: &mut [u32], witness: &mut [u8]) -> DemandNumbers
+pub extern "C" fn marnipode_demand(
+    bytes: &[u8],
+    interval: u64,
+    cells: &mut [u32],
+    witness: &mut [u8],
+) -> DemandNumbers
     ensures { λ r. ⌜ DemandExport (now (bytes .entry)) interval (now (cells .entry)) (now (witness .entry)) r (now (cells .exit)) (now (witness .exit)) ⌝ }
 {
     demand_numbers(desk::demand(bytes, interval, cells, witness))
@@ -58,21 +63,33 @@ pub extern "C" fn marnipode_margin(bytes: &[u8], interval: u64, cells: &mut [u32
 }
 
 #[no_mangle]
-pub extern "C" fn marnipode_shortest(bytes: &[u8], amount: u64, cells: &mut [u32]) -> ShortestNumbers
+pub extern "C" fn marnipode_shortest(
+    bytes: &[u8],
+    amount: u64,
+    cells: &mut [u32],
+) -> ShortestNumbers
     ensures { λ r. ⌜ ShortestExport (now (bytes .entry)) amount (now (cells .entry)) r (now (cells .exit)) ⌝ }
 {
     shortest_numbers(desk::shortest(bytes, amount, cells))
 }
 
 #[no_mangle]
-pub extern "C" fn marnipode_verdict_by_interval(bytes: &[u8], horizon: u64, cells: &mut [u32]) -> VerdictNumbers
+pub extern "C" fn marnipode_verdict_by_interval(
+    bytes: &[u8],
+    horizon: u64,
+    cells: &mut [u32],
+) -> VerdictNumbers
     ensures { λ r. ⌜ VerdictByIntervalExport (now (bytes .entry)) horizon (now (cells .entry)) r (now (cells .exit)) ⌝ }
 {
     verdict_numbers(desk::verdict_by_interval(bytes, horizon, cells))
 }
 
 #[no_mangle]
-pub extern "C" fn marnipode_verdict_by_amount(bytes: &[u8], horizon: u64, cells: &mut [u32]) -> VerdictNumbers
+pub extern "C" fn marnipode_verdict_by_amount(
+    bytes: &[u8],
+    horizon: u64,
+    cells: &mut [u32],
+) -> VerdictNumbers
     ensures { λ r. ⌜ VerdictByAmountExport (now (bytes .entry)) horizon (now (cells .entry)) r (now (cells .exit)) ⌝ }
 {
     verdict_numbers(desk::verdict_by_amount(bytes, horizon, cells))

@@ -104,7 +104,12 @@ pub(crate) fn field_numbers(step: Step) -> FieldNumbers
     ensures { λ r. ⌜ r ≡ flatStep step ⌝ }
 {
     match step {
-        Step::Field { kind, start, size, next } => FieldNumbers {
+        Step::Field {
+            kind,
+            start,
+            size,
+            next,
+        } => FieldNumbers {
             number: 0,
             place: 0,
             kind: kind_number(kind),

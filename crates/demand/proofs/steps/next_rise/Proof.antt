@@ -58,10 +58,13 @@ loop-again : tie.Need-loop-again Inv-loop μ-loop
 loop-again c =
     let l = c .before .before .before .loop in
     let a = c .before .before .before .before .before .before .args in
-    let flat : Rises (a .rows) (now (a .cells)) (l .interval) → ⊥ = λ up. omega (arith, c .if1 .left, l .inv .2, c .before .demand-of2 .ensures, up) in
-    (omega (arith, l .inv .0), omega (arith, c .before .before .loop-test .taken), rw (add-sub-cancel (l .interval) 1) (c .before .demand-of2 .ensures),
-    λ passed from below up.
-    ⊎-elim (λ m. l .inv .3 passed from m up) (λ m. let same : passed ≡ l .interval = omega arith in flat (rw same at up)) (lt-or passed (l .interval)))
+    let flat : Rises (a .rows) (now (a .cells)) (l .interval) → ⊥ = λ up. omega (arith, c .if1 .left, l .inv .2, c .before .demand-of2 .ensures, up) in (
+      omega (arith, l .inv .0),
+      omega (arith, c .before .before .loop-test .taken),
+      rw (add-sub-cancel (l .interval) 1) (c .before .demand-of2 .ensures),
+      λ passed from below up.
+          ⊎-elim (λ m. l .inv .3 passed from m up) (λ m. let same : passed ≡ l .interval = omega arith in flat (rw same at up)) (lt-or passed (l .interval)),
+    )
 
 returns-2 : tie.Need-returns-2 Inv-loop μ-loop
 returns-2 c =
