@@ -10,7 +10,10 @@
 #include "marnipode.h"
 #include "plain.h"
 
-enum { ROWS = 32, LENGTHS = 8, RUNS = 7, SHEET_SIZE = 4096 };
+enum { ROWS = 32, LENGTHS = 8, LEAST_RUNS = 7, SHEET_SIZE = 4096 };
+
+/* Short jobs are run more often, for about this long. */
+static const double LEAST_SECONDS = 0.4;
 
 static uint8_t sheet[SHEET_SIZE];
 static size_t sheet_size;
@@ -48,7 +51,7 @@ static void make_sheet(unsigned rows, unsigned followers)
     for (unsigned i = 0; i < LENGTHS; i++) {
         put_head(2, 4);
         put_word(1500 + 1000 * i);
-        put_word(965 / (i + 1));
+        put_word(2000 / (i + 1));
     }
     for (unsigned k = 0; k < rows; k++) {
         uint32_t set = 0;
@@ -80,19 +83,28 @@ static double seconds(void)
 
 static void fail(const char *what)
 {
-    fprintf(stderr, "bench: %s differ\n", what);
+    fprintf(stderr, "bench: %s\n", what);
     exit(1);
 }
 
-/* The margin at t by both, or the shortest interval for t by both: the time each takes. */
+/* How long the margin at t, or the shortest interval for t, takes. */
 static double time_ours(int by_amount, uint64_t t, int64_t *answer)
 {
     double began = seconds();
-    if (by_amount)
-        *answer = marnipode_shortest(sheet, sheet_size, t, ours, cell_count).time;
-    else
-        *answer = marnipode_margin(sheet, sheet_size, t, ours, cell_count).margin;
-    return seconds() - began;
+    uint8_t refused;
+    if (by_amount) {
+        marnipode_shortest_answer shortest = marnipode_shortest(sheet, sheet_size, t, ours, cell_count);
+        refused = shortest.number;
+        *answer = shortest.time;
+    } else {
+        marnipode_margin_answer margin = marnipode_margin(sheet, sheet_size, t, ours, cell_count);
+        refused = margin.number;
+        *answer = margin.margin;
+    }
+    double took = seconds() - began;
+    if (refused != 0)
+        fail("the sheet is refused");
+    return took;
 }
 
 static double time_plain(int by_amount, uint64_t t, int64_t *answer)
@@ -107,16 +119,17 @@ static void measure(int by_amount, unsigned rows, unsigned followers, uint64_t t
     make_sheet(rows, followers);
     double best_ours = 1e9, best_plain = 1e9;
     size_t lines = by_amount ? t : t + 1;
-    for (int run = 0; run < RUNS; run++) {
+    double began = seconds();
+    for (int run = 0; run < LEAST_RUNS || seconds() - began < LEAST_SECONDS; run++) {
         int64_t answer, same;
         double took = time_ours(by_amount, t, &answer);
         best_ours = took < best_ours ? took : best_ours;
         took = time_plain(by_amount, t, &same);
         best_plain = took < best_plain ? took : best_plain;
         if (answer != same)
-            fail("answers");
+            fail("the answers differ");
         if (memcmp(ours, plain, lines * rows * sizeof *ours) != 0)
-            fail("cells");
+            fail("the cells differ");
     }
     double edges = (double)lines * rows * followers;
     printf("%-12s %4u %9u %7llu", by_amount ? "by amount" : "by interval", rows, followers, (unsigned long long)t);
@@ -141,7 +154,7 @@ int main(int argc, char **argv)
     plain = calloc(cell_count, sizeof *plain);
     if (ours == NULL || plain == NULL)
         return 2;
-    printf("One edge is one follower of one cell. Best of %d runs, in turn, on the same bytes; answers and cells are equal.\n", RUNS);
+    printf("One edge is one follower of one cell. Best of at least %d runs, in turn, on the same bytes; answers and cells are equal.\n", LEAST_RUNS);
     head("Whole calls: margin at 65,535, and the shortest interval for 65,536");
     for (unsigned followers = ROWS; 0 < followers; followers = followers == ROWS ? 3 : 0) {
         measure(0, ROWS, followers, MARNIPODE_LONGEST_TIME);

@@ -38,11 +38,13 @@ find_tools() {
     [ -x "$emulator" ] || emulator=
 }
 
-# A C compiler for x86-64. On another processor it is Debian's, and what it links is static, as the emulator wants it.
+# A C compiler for x86-64, and its disassembler. On another processor they are Debian's, and what is linked is static, as the emulator wants it.
 find_compiler() {
     compiler=(cc)
+    objdump=objdump
     if [ -n "$emulator" ]; then
         compiler=(x86_64-linux-gnu-gcc -static)
+        objdump=x86_64-linux-gnu-objdump
         command -v "${compiler[0]}" >/dev/null || apt-get install -y -qq gcc-x86-64-linux-gnu >/dev/null || true
     fi
     command -v "${compiler[0]}" >/dev/null || stop "there is no ${compiler[0]}, the C compiler for x86-64"
