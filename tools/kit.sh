@@ -45,7 +45,7 @@ find_compiler() {
     if [ -n "$emulator" ]; then
         compiler=(x86_64-linux-gnu-gcc -static)
         objdump=x86_64-linux-gnu-objdump
-        command -v "${compiler[0]}" >/dev/null || apt-get install -y -qq gcc-x86-64-linux-gnu >/dev/null || true
+        command -v "${compiler[0]}" >/dev/null || { apt-get update -qq && apt-get install -y -qq gcc-x86-64-linux-gnu; } >/dev/null || true
     fi
     command -v "${compiler[0]}" >/dev/null || stop "there is no ${compiler[0]}, the C compiler for x86-64"
 }
