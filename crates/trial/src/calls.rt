@@ -10,6 +10,7 @@ use desk::MarginAnswer;
 use desk::ShortestAnswer;
 use desk::VerdictAnswer;
 use sheet::Answer;
+use sheet::values::Sheet;
 ghost use Prim.Native.Nat.{_≤_};
 
 // A call that fills cells.
@@ -22,10 +23,10 @@ pub enum Call {
 }
 
 // How many there are.
-pub const CALLS: usize = 5;
+pub const CALLS: u64 = 5;
 
 // Each of them by a number.
-pub fn call_of(number: usize) -> Call {
+pub fn call_of(number: u64) -> Call {
     match number {
         0 => Call::Demand,
         1 => Call::Margin,
@@ -35,43 +36,7 @@ pub fn call_of(number: usize) -> Call {
     }
 }
 
-// What the judge says of a sheet.
-pub fn judged(bytes: &[u8]) -> Outcome {
-    let judged = sheet::judge(bytes);
-    let answer = judged.answer;
-    match answer {
-        Answer::Accepted => Outcome::found(false, 0, 0),
-        Answer::Refused { number, place } => Outcome::refused(number as u64, place as u64),
-    }
-}
-
-// How many cells a call uses: for each row of the sheet one for each interval from 0 to its number, or for each amount up to it or to one more. None for a number that no call takes.
-pub fn cells_used(call: Call, bytes: &[u8], number: u64) -> usize {
-    let judged = sheet::judge(bytes);
-    let sheet = judged.sheet;
-    let tally = sheet.tally;
-    if 65536 < number {
-        return 0;
-    }
-    match call {
-        Call::Shortest => cells_for(tally.rows, number as usize),
-        Call::Demand => cells_for(tally.rows, number as usize + 1),
-        Call::Margin => cells_for(tally.rows, number as usize + 1),
-        Call::ByInterval => cells_for(tally.rows, number as usize + 1),
-        Call::ByAmount => cells_for(tally.rows, number as usize + 1),
-    }
-}
-
-fn cells_for(rows: usize, columns: usize) -> usize
-    requires { ⌜ columns ≤ 65537 ⌝ }
-{
-    if 32 < rows {
-        return 0;
-    }
-    rows * columns
-}
-
-// A call on memory that holds the pattern. The cells that it filled are compared with those of another call that must fill them the same.
+// A call on memory that holds the pattern. The cells that it fills are compared with those of another call that must fill them the same.
 pub fn tried(call: Call, bytes: &[u8], number: u64, cells: &mut [u32], area: &mut [u8]) -> Outcome {
     let got = ask_afresh(call, bytes, number, cells, area);
     let used = if fills(got.number) {
@@ -80,11 +45,55 @@ pub fn tried(call: Call, bytes: &[u8], number: u64, cells: &mut [u32], area: &mu
         0
     };
     let held = digest(cells, used);
-    let kept = cells_kept(cells, used);
-    let kept_area = bytes_kept(area, got.count);
-    ask_twin_afresh(call, bytes, number, cells);
-    let alike = held == digest(cells, used);
-    got.with_memory(kept & kept_area & alike)
+    let kept = cells_kept(cells, used) & bytes_kept(area, got.count);
+    ask_twin(call, bytes, number, cells);
+    if kept & (held == digest(cells, used)) {
+        return got;
+    }
+    Outcome::refused(Outcome::SPOILED, 0)
+}
+
+// Whether a call that answers so has filled its cells: with no refusal, and with 13 and 14, which come last.
+fn fills(number: u64) -> bool {
+    match number {
+        0 | 13 | 14 => true,
+        _ => false,
+    }
+}
+
+// How many cells a call uses: as many for each row of the sheet as it has intervals or amounts.
+pub fn cells_used(call: Call, bytes: &[u8], number: u64) -> usize {
+    cells_for(rows_of(bytes), columns(call, number))
+}
+
+// How many rows a sheet has; none where it is refused.
+fn rows_of(bytes: &[u8]) -> usize {
+    let judged = sheet::judge(bytes);
+    let sheet = judged.sheet;
+    let tally = sheet.tally;
+    tally.rows
+}
+
+// Amounts from 1 to the call's number, or intervals from 0 to it, or amounts up to one more; none for a number that no call takes.
+fn columns(call: Call, number: u64) -> usize
+    ensures { λ r. ⌜ r ≤ 65537 ⌝ }
+{
+    if 65536 < number {
+        return 0;
+    }
+    match call {
+        Call::Shortest => number as usize,
+        _ => number as usize + 1,
+    }
+}
+
+fn cells_for(rows: usize, columns: usize) -> usize
+    requires { ⌜ columns ≤ 65537 ⌝ }
+{
+    if Sheet::ROWS < rows {
+        return 0;
+    }
+    rows * columns
 }
 
 fn ask_afresh(
@@ -99,69 +108,55 @@ fn ask_afresh(
     asked(call, bytes, number, cells, area)
 }
 
-fn ask_twin_afresh(call: Call, bytes: &[u8], number: u64, cells: &mut [u32]) {
+// The call that must fill the same cells, on memory that holds the pattern. It gives no witness.
+fn ask_twin(call: Call, bytes: &[u8], number: u64, cells: &mut [u32]) {
+    let mut area = [0u8; 1];
     fill_cells(cells);
-    ask_twin(call, bytes, number, cells)
+    asked(twin(call), bytes, twin_number(call, number), cells, &mut area);
 }
 
-// Whether a call that answers so has filled its cells: with no refusal, and with 13 and 14, which come last.
-fn fills(number: u64) -> bool {
-    match number {
-        0 => true,
-        13 => true,
-        14 => true,
-        _ => false,
+fn twin(call: Call) -> Call {
+    match call {
+        Call::Demand => Call::Margin,
+        Call::Margin => Call::ByInterval,
+        Call::ByInterval => Call::Margin,
+        Call::Shortest => Call::ByAmount,
+        Call::ByAmount => Call::Shortest,
+    }
+}
+
+// The cells of an amount are those of the horizon one below it.
+fn twin_number(call: Call, number: u64) -> u64 {
+    match call {
+        Call::Shortest => {
+            if number == 0 { 0 } else { number - 1 }
+        }
+        Call::ByAmount => {
+            if number < u64::MAX { number + 1 } else { number }
+        }
+        _ => number,
     }
 }
 
 fn asked(call: Call, bytes: &[u8], number: u64, cells: &mut [u32], area: &mut [u8]) -> Outcome {
     match call {
-        Call::Demand => demand(bytes, number, cells, area),
-        Call::Margin => margin(bytes, number, cells),
+        Call::Demand => demand(desk::demand(bytes, number, cells, area)),
+        Call::Margin => margin(desk::margin(bytes, number, cells)),
         Call::ByInterval => verdict(desk::verdict_by_interval(bytes, number, cells)),
-        Call::Shortest => shortest(bytes, number, cells),
+        Call::Shortest => shortest(desk::shortest(bytes, number, cells)),
         Call::ByAmount => verdict(desk::verdict_by_amount(bytes, number, cells)),
     }
 }
 
-// The call that must fill the same cells.
-fn ask_twin(call: Call, bytes: &[u8], number: u64, cells: &mut [u32]) {
-    match call {
-        Call::Demand => {
-            desk::margin(bytes, number, cells);
-        }
-        Call::Margin => {
-            desk::verdict_by_interval(bytes, number, cells);
-        }
-        Call::ByInterval => {
-            desk::margin(bytes, number, cells);
-        }
-        Call::Shortest => {
-            desk::verdict_by_amount(bytes, before(number), cells);
-        }
-        Call::ByAmount => {
-            desk::shortest(bytes, after(number), cells);
-        }
-    }
-}
-
-fn before(number: u64) -> u64 {
-    if number == 0 { 0 } else { number - 1 }
-}
-
-fn after(number: u64) -> u64 {
-    if number < u64::MAX { number + 1 } else { number }
-}
-
-fn demand(bytes: &[u8], interval: u64, cells: &mut [u32], area: &mut [u8]) -> Outcome {
-    match desk::demand(bytes, interval, cells, area) {
+fn demand(answer: DemandAnswer) -> Outcome {
+    match answer {
         DemandAnswer::Found { amount, count } => Outcome::found(false, amount as u64, count),
         DemandAnswer::Refused { number, place } => Outcome::refused(number as u64, place as u64),
     }
 }
 
-fn margin(bytes: &[u8], interval: u64, cells: &mut [u32]) -> Outcome {
-    match desk::margin(bytes, interval, cells) {
+fn margin(answer: MarginAnswer) -> Outcome {
+    match answer {
         MarginAnswer::Found { margin } => Outcome::found(margin < 0, size_of(margin), 0),
         MarginAnswer::Refused { number, place } => Outcome::refused(number as u64, place as u64),
     }
@@ -175,8 +170,8 @@ fn size_of(signed: i64) -> u64 {
     signed as u64
 }
 
-fn shortest(bytes: &[u8], amount: u64, cells: &mut [u32]) -> Outcome {
-    match desk::shortest(bytes, amount, cells) {
+fn shortest(answer: ShortestAnswer) -> Outcome {
+    match answer {
         ShortestAnswer::Found { time } => Outcome::found(false, time as u64, 0),
         ShortestAnswer::Refused { number, place } => Outcome::refused(number as u64, place as u64),
     }
@@ -187,5 +182,19 @@ fn verdict(answer: VerdictAnswer) -> Outcome {
         VerdictAnswer::Holds => Outcome::found(false, 0, 0),
         VerdictAnswer::Overrun { interval } => Outcome::found(false, interval, 0),
         VerdictAnswer::Refused { number, place } => Outcome::refused(number as u64, place as u64),
+    }
+}
+
+// What the judge says of a sheet.
+pub fn judged(bytes: &[u8]) -> Outcome {
+    let judged = sheet::judge(bytes);
+    let answer = judged.answer;
+    answered(answer)
+}
+
+fn answered(answer: Answer) -> Outcome {
+    match answer {
+        Answer::Accepted => Outcome::found(false, 0, 0),
+        Answer::Refused { number, place } => Outcome::refused(number as u64, place as u64),
     }
 }

@@ -9,41 +9,47 @@ use crate::report::print_score;
 use crate::report::print_wrong;
 use crate::text::Numeral;
 use crate::text::add_words;
+use crate::text::ends;
 use crate::text::find;
 use crate::text::number_of;
 use crate::text::part;
 use crate::text::says;
 use crate::text::word;
 
-// Where the reading stands: the line's number, the size of the sheet, what is lent, where the line that names the group stands, and the scores of the group and of the groups before.
-pub struct State {
-    pub line: u64,
-    pub size: usize,
-    pub lent: Lent,
-    pub from: usize,
-    pub to: usize,
-    pub group: Score,
-    pub before: Score,
+// Where the reading stands: the line's number, the size of the sheet, what is lent, where the line that names the group starts, and the scores of the group and of the groups before.
+struct State {
+    line: u64,
+    size: usize,
+    lent: Lent,
+    name: usize,
+    group: Score,
+    before: Score,
 }
 
 impl State {
     fn start() -> State {
         let none = Score::start();
-        let lent = Lent {
-            told: false,
-            cells: 0,
-            bytes: 0,
-        };
+        let lent = all_lent();
         State {
             line: 0,
             size: 0,
             lent: lent,
-            from: 0,
-            to: 0,
+            name: 0,
             group: none,
             before: none,
         }
     }
+}
+
+// What a line is.
+enum Line {
+    Nothing,
+    Group,
+    Sheet,
+    More,
+    Lend,
+    Prefixes,
+    Case,
 }
 
 // Reads a text to its end, and answers how many answers were compared and how many were wrong.
@@ -66,7 +72,6 @@ fn run_on(text: &[u8], sheet: &mut [u8], cells: &mut [u32], area: &mut [u8]) -> 
     closed(text, state)
 }
 
-// A line up to its comment.
 fn read_line(
     text: &[u8],
     at: usize,
@@ -76,29 +81,45 @@ fn read_line(
     cells: &mut [u32],
     area: &mut [u8],
 ) -> State {
-    let whole = part(text, at, end);
-    let line = part(whole, 0, find(whole, 0, b'#'));
+    let line = without_comment(part(text, at, end));
     let next = next_line(state);
-    if word(line, 0).len() == 0 {
-        return next;
+    let size = next.size;
+    match line_of(line) {
+        Line::Nothing => next,
+        Line::Group => opened(text, at, next),
+        Line::Sheet => with_bytes(line, sheet, with_no_sheet(next)),
+        Line::More => with_bytes(line, sheet, next),
+        Line::Lend => lending(line, next),
+        Line::Prefixes => with_score(next, prefixes(part(sheet, 0, size))),
+        Line::Case => read_case(line, next, part(sheet, 0, size), cells, area),
+    }
+}
+
+// A line up to its comment.
+fn without_comment(line: &[u8]) -> &[u8] {
+    part(line, 0, find(line, 0, b'#'))
+}
+
+fn line_of(line: &[u8]) -> Line {
+    if ends(line, 0) {
+        return Line::Nothing;
     }
     if says(line, 0, b"group") {
-        return opened(text, at, end, next);
+        return Line::Group;
     }
     if says(line, 0, b"sheet") {
-        return with_bytes(line, sheet, with_no_sheet(next));
+        return Line::Sheet;
     }
     if says(line, 0, b"more") {
-        return with_bytes(line, sheet, next);
+        return Line::More;
     }
     if says(line, 0, b"lend") {
-        return lending(line, next);
+        return Line::Lend;
     }
-    let bytes = part(sheet, 0, next.size);
     if says(line, 0, b"prefixes") {
-        return with_score(next, prefixes(bytes));
+        return Line::Prefixes;
     }
-    settled(next, compare(line, bytes, next.lent, cells, area), area)
+    Line::Case
 }
 
 fn next_line(state: State) -> State {
@@ -110,12 +131,11 @@ fn next_line(state: State) -> State {
 }
 
 // The group before is told, and a new one begins.
-fn opened(text: &[u8], at: usize, end: usize, state: State) -> State {
+fn opened(text: &[u8], at: usize, state: State) -> State {
     let before = closed(text, state);
     let group = Score::start();
     let mut next = state;
-    next.from = at;
-    next.to = end;
+    next.name = at;
     next.group = group;
     next.before = before;
     next
@@ -125,24 +145,28 @@ fn opened(text: &[u8], at: usize, end: usize, state: State) -> State {
 fn closed(text: &[u8], state: State) -> Score {
     let before = state.before;
     let group = state.group;
-    let line = part(text, state.from, state.to);
+    let at = state.name;
+    let line = part(text, at, find(text, at, b'\n'));
     if 0 < group.compared {
         print_score(part(line, 6, line.len()), group);
     }
     before.and(group)
 }
 
-// A new sheet, of no bytes yet, and with it what is lent by itself.
+// A new sheet, of no bytes yet.
 fn with_no_sheet(state: State) -> State {
-    let lent = Lent {
-        told: false,
-        cells: 0,
-        bytes: 0,
-    };
+    let lent = all_lent();
     let mut next = state;
     next.size = 0;
     next.lent = lent;
     next
+}
+
+fn all_lent() -> Lent {
+    Lent {
+        cells: usize::MAX,
+        bytes: usize::MAX,
+    }
 }
 
 // A sheet with the bytes of a line.
@@ -171,7 +195,6 @@ fn lending(line: &[u8], state: State) -> State {
         return misread(state);
     };
     let lent = Lent {
-        told: true,
         cells: cells as usize,
         bytes: bytes as usize,
     };
@@ -181,10 +204,24 @@ fn lending(line: &[u8], state: State) -> State {
 }
 
 fn with_score(state: State, score: Score) -> State {
-    let group = state.group.and(score);
+    let group = state.group;
+    let grown = group.and(score);
     let mut next = state;
-    next.group = group;
+    next.group = grown;
     next
+}
+
+// A case on the sheet.
+fn read_case(
+    line: &[u8],
+    state: State,
+    bytes: &[u8],
+    cells: &mut [u32],
+    area: &mut [u8],
+) -> State {
+    let lent = state.lent;
+    let compared = compare(line, bytes, lent, cells, area);
+    settled(state, compared, area)
 }
 
 // An answer counted, and told where it is the first wrong one of its group.

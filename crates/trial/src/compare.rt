@@ -21,6 +21,8 @@ use crate::text::word;
 use sheet::fields::Kind;
 use sheet::reader::Step;
 use sheet::reader::byte_at;
+use sheet::reader::field_at;
+ghost use Prim.Native.Nat.{_<_, _^_};
 
 // Whether the answer was right, and what it was.
 pub struct Compared {
@@ -28,19 +30,76 @@ pub struct Compared {
     pub got: Outcome,
 }
 
-// How many cells and bytes the calls are lent: so many where the text says it, else more than enough.
+// The most cells and bytes that a call is lent.
 pub struct Lent {
-    pub told: bool,
     pub cells: usize,
     pub bytes: usize,
 }
 
-// A line that is no case.
-pub fn unread() -> Compared {
-    let got = Outcome::unreadable();
-    Compared {
-        right: false,
-        got: got,
+// What a case asks.
+enum Asked {
+    Judge,
+    Refusals,
+    Label,
+    Field,
+    Cell,
+    Calls(Call),
+    Nothing,
+}
+
+// What a line asks by its first word.
+fn asked_by(line: &[u8]) -> Asked {
+    if says(line, 0, b"accepted") {
+        return Asked::Judge;
+    }
+    if says(line, 0, b"refused") {
+        return Asked::Refusals;
+    }
+    if says(line, 0, b"label") {
+        return Asked::Label;
+    }
+    if says(line, 0, b"field") {
+        return Asked::Field;
+    }
+    if says(line, 0, b"cell") {
+        return Asked::Cell;
+    }
+    asked_of_calls(line)
+}
+
+// A verdict begins with the one by interval.
+fn asked_of_calls(line: &[u8]) -> Asked {
+    if says(line, 0, b"demand") {
+        return Asked::Calls(Call::Demand);
+    }
+    if says(line, 0, b"margin") {
+        return Asked::Calls(Call::Margin);
+    }
+    if says(line, 0, b"verdict") {
+        return Asked::Calls(Call::ByInterval);
+    }
+    if says(line, 0, b"shortest") {
+        return Asked::Calls(Call::Shortest);
+    }
+    Asked::Nothing
+}
+
+// The case of a line, for a sheet and what is lent.
+pub fn compare(
+    line: &[u8],
+    bytes: &[u8],
+    lent: Lent,
+    cells: &mut [u32],
+    area: &mut [u8],
+) -> Compared {
+    match asked_by(line) {
+        Asked::Judge => held_to(judged(bytes), said(line, 0)),
+        Asked::Refusals => refused(line, bytes, cells, area),
+        Asked::Label => label(line, bytes, area),
+        Asked::Field => field(line, bytes),
+        Asked::Cell => cell(line, cells),
+        Asked::Calls(call) => called(call, line, bytes, lent, cells, area),
+        Asked::Nothing => unread(),
     }
 }
 
@@ -52,100 +111,74 @@ fn held_to(got: Outcome, must: Outcome) -> Compared {
     }
 }
 
-// The case of a line, by its first word.
-pub fn compare(
-    line: &[u8],
-    bytes: &[u8],
-    lent: Lent,
-    cells: &mut [u32],
-    area: &mut [u8],
-) -> Compared {
-    if says(line, 0, b"accepted") {
-        return held_to(judged(bytes), said(line, 0));
+// A line that cannot be understood.
+pub fn unread() -> Compared {
+    let got = Outcome::refused(Outcome::UNREAD, 0);
+    Compared {
+        right: false,
+        got: got,
     }
-    if says(line, 0, b"refused") {
-        return refused(line, bytes, cells, area);
-    }
-    if says(line, 0, b"label") {
-        return label(line, bytes, area);
-    }
-    let Numeral::Is(number) = number_of(word(line, 1)) else {
-        return unread();
-    };
-    if says(line, 0, b"field") {
-        return field(line, bytes, number);
-    }
-    if says(line, 0, b"cell") {
-        return cell(line, number, cells);
-    }
-    if says(line, 0, b"verdict") {
-        return verdict(line, bytes, number, lent, cells, area);
-    }
-    if says(line, 0, b"margin") {
-        return called(Call::Margin, line, bytes, number, lent, cells, area);
-    }
-    if says(line, 0, b"shortest") {
-        return called(Call::Shortest, line, bytes, number, lent, cells, area);
-    }
-    if says(line, 0, b"demand") {
-        return demand(line, bytes, number, lent, cells, area);
-    }
-    unread()
 }
 
-// One call and its answer.
+// A call, with the witness where it gives one, and both verdicts where it is one.
 fn called(
     call: Call,
     line: &[u8],
     bytes: &[u8],
-    number: u64,
     lent: Lent,
     cells: &mut [u32],
     area: &mut [u8],
 ) -> Compared {
-    let needed = cells_used(call, bytes, number);
-    let cells_lent = if lent.told { lent.cells } else { more_than(needed) };
-    let bytes_lent = if lent.told { lent.bytes } else { area.len() };
+    let first = called_once(call, line, bytes, lent, cells, area);
+    match call {
+        Call::Demand => with_witness(first, line, area),
+        Call::ByInterval => {
+            if first.right {
+                called_once(Call::ByAmount, line, bytes, lent, cells, area)
+            } else {
+                first
+            }
+        }
+        _ => first,
+    }
+}
+
+// One call on the memory that it is lent: some cells more than it uses, so that it can be seen to leave them, unless the text lends fewer.
+fn called_once(
+    call: Call,
+    line: &[u8],
+    bytes: &[u8],
+    lent: Lent,
+    cells: &mut [u32],
+    area: &mut [u8],
+) -> Compared {
+    let Numeral::Is(number) = number_of(word(line, 1)) else {
+        return unread();
+    };
+    let most = least(lent.cells, cells_used(call, bytes, number));
     let got = tried(
         call,
         bytes,
         number,
-        first_cells(cells, cells_lent),
-        first_bytes(area, bytes_lent),
+        first_cells(cells, most),
+        first_bytes(area, lent.bytes),
     );
     held_to(got, said(line, 2))
 }
 
-fn more_than(count: usize) -> usize {
-    if count < 1000000 { count + 7 } else { count }
-}
-
-// Both verdicts, which must be the same.
-fn verdict(
-    line: &[u8],
-    bytes: &[u8],
-    horizon: u64,
-    lent: Lent,
-    cells: &mut [u32],
-    area: &mut [u8],
-) -> Compared {
-    let first = called(Call::ByInterval, line, bytes, horizon, lent, cells, area);
-    if first.right {
-        return called(Call::ByAmount, line, bytes, horizon, lent, cells, area);
+// What a call that uses so many cells is lent of the most.
+fn least(most: usize, used: usize) -> usize {
+    if most < 7 {
+        return most;
     }
-    first
+    if most - 7 < used {
+        return most;
+    }
+    used + 7
 }
 
-// A demand with its witness.
-fn demand(
-    line: &[u8],
-    bytes: &[u8],
-    interval: u64,
-    lent: Lent,
-    cells: &mut [u32],
-    area: &mut [u8],
-) -> Compared {
-    let found = called(Call::Demand, line, bytes, interval, lent, cells, area);
+// The same, and wrong where the witness is.
+fn with_witness(found: Compared, line: &[u8], area: &[u8]) -> Compared {
     let got = found.got;
     if got.number != 0 {
         return found;
@@ -156,80 +189,68 @@ fn demand(
     }
 }
 
-// Whether the rows that a line gives after `by`, none where it ends before, are those in the area.
+// Whether the first `count` bytes of the area are the rows that a line gives behind `by`.
 fn witness_is(line: &[u8], area: &[u8], count: usize) -> bool {
-    if count == 0 {
-        return ends(line, 4);
-    }
-    if !says(line, 4, b"by") {
-        return false;
-    }
     let mut at: usize = 0;
     while at < area.len() {
         if count <= at {
-            return ends(line, 5 + at);
+            return ends(line, words_with(at));
         }
         if !counts(line, 5 + at, byte_at(area, at) as u64) {
             return false;
         }
         at += 1;
     }
-    ends(line, 5 + at)
+    ends(line, words_with(at))
 }
 
-// A refused sheet: the judge and every call say so, the label is empty and no lent memory is changed. That comes before what a call's own number or the lent cells would have it refused by.
+// How many words a line has with a witness of so many rows.
+fn words_with(rows: usize) -> usize
+    requires { ⌜ rows < 2 ^ 63 ⌝ }
+{
+    if rows == 0 { 4 } else { 5 + rows }
+}
+
+// A refused sheet: every call and the judge refuse it so.
 fn refused(line: &[u8], bytes: &[u8], cells: &mut [u32], area: &mut [u8]) -> Compared {
     let must = said(line, 0);
-    let got = judged(bytes);
-    if !got.is(must) {
-        return held_to(got, must);
-    }
-    if sheet::label(bytes).len() != 0 {
-        return unread();
-    }
-    let few = first_cells(cells, 3);
-    let wrong = refused_by_all(bytes, 1, must, few, area);
-    if !wrong.is(must) {
-        return held_to(wrong, must);
-    }
-    held_to(refused_by_all(bytes, 65537, must, few, area), must)
+    let got = refusal_by_all(bytes, must, first_cells(cells, 3), area);
+    held_to(got, must)
 }
 
-// The answer of the first call that does not refuse as it must, else the refusal.
-fn refused_by_all(
-    bytes: &[u8],
-    number: u64,
-    must: Outcome,
-    cells: &mut [u32],
-    area: &mut [u8],
-) -> Outcome {
-    let mut asked: usize = 0;
-    while asked < CALLS {
-        let got = tried(call_of(asked), bytes, number, cells, area);
+// The answer of the first call that does not refuse as it must, else the judge's. Every call is made twice: with the number 1, and with one that it would refuse itself.
+fn refusal_by_all(bytes: &[u8], must: Outcome, cells: &mut [u32], area: &mut [u8]) -> Outcome {
+    let mut made: u64 = 0;
+    while made < 2 * CALLS {
+        let got = tried(call_of(made % CALLS), bytes, 1 + made / CALLS * 65536, cells, area);
         if !got.is(must) {
             return got;
         }
-        asked += 1;
+        made += 1;
     }
-    must
+    if sheet::label(bytes).len() == 0 {
+        return judged(bytes);
+    }
+    Outcome::refused(Outcome::SPOILED, 0)
 }
 
-// The label's bytes.
+// The label's bytes; of a wrong label its length is told.
 fn label(line: &[u8], bytes: &[u8], area: &mut [u8]) -> Compared {
     let must = add_words(line, 2, area, 0);
     let got = sheet::label(bytes);
-    if !must.understood {
-        return unread();
-    }
-    let right = same(got, part(area, 0, must.size)) & says(line, 1, b"is");
+    let right = same(got, part(area, 0, must.size));
+    let size = Outcome::found(false, got.len() as u64, 0);
     Compared {
-        right: right,
-        got: Outcome::found(false, got.len() as u64, 0),
+        right: right & must.understood & says(line, 1, b"is"),
+        got: size,
     }
 }
 
 // A cell as the last call left it.
-fn cell(line: &[u8], number: u64, cells: &[u32]) -> Compared {
+fn cell(line: &[u8], cells: &[u32]) -> Compared {
+    let Numeral::Is(number) = number_of(word(line, 1)) else {
+        return unread();
+    };
     let at = number as usize;
     if cells.len() <= at {
         return unread();
@@ -241,9 +262,12 @@ fn amount(cell: u32) -> Outcome {
     Outcome::found(false, cell as u64, 0)
 }
 
-// A step of the reader: `is TAG START SIZE NEXT`, where a skipped field has the tag 128.
-fn field(line: &[u8], bytes: &[u8], place: u64) -> Compared {
-    match sheet::reader::field_at(bytes, place as usize) {
+// A step of the reader. Of a wrong field the place behind it is told.
+fn field(line: &[u8], bytes: &[u8]) -> Compared {
+    let Numeral::Is(place) = number_of(word(line, 1)) else {
+        return unread();
+    };
+    match field_at(bytes, place as usize) {
         Step::Refusal { number, place } => held_to(Outcome::refused(number as u64, place as u64), said(line, 2)),
         Step::Field {
             kind,
@@ -251,15 +275,22 @@ fn field(line: &[u8], bytes: &[u8], place: u64) -> Compared {
             size,
             next,
         } => {
-            let right = counts(line, 3, tag_of(kind)) & counts(line, 4, start as u64) & counts(line, 5, size as u64) & counts(line, 6, next as u64);
+            let right = field_said(line, kind, start as u64, size as u64, next as u64);
             Compared {
-                right: right & says(line, 2, b"is") & ends(line, 7),
+                right: right,
                 got: Outcome::found(false, next as u64, 0),
             }
         }
     }
 }
 
+// Whether a line says `is TAG START SIZE NEXT`.
+fn field_said(line: &[u8], kind: Kind, start: u64, size: u64, next: u64) -> bool {
+    let numbers = counts(line, 3, tag_of(kind)) & counts(line, 4, start) & counts(line, 5, size);
+    numbers & counts(line, 6, next) & says(line, 2, b"is") & ends(line, 7)
+}
+
+// The tag of a kind; 128 for a skipped field, whatever its own is.
 fn tag_of(kind: Kind) -> u64 {
     match kind {
         Kind::RefusedTag => 0,

@@ -18,16 +18,10 @@ impl Score {
 
     // With one answer more.
     pub fn with(self, right: bool) -> Score {
-        let compared = sum(self.compared, 1);
-        if right {
-            return Score {
-                compared: compared,
-                wrong: self.wrong,
-            };
-        }
+        let wrong: u64 = if right { 0 } else { 1 };
         Score {
-            compared: compared,
-            wrong: sum(self.wrong, 1),
+            compared: sum(self.compared, 1),
+            wrong: sum(self.wrong, wrong),
         }
     }
 
@@ -58,31 +52,46 @@ pub fn print_score(name: &[u8], score: Score) {
     io::write_all(STDOUT_FILENO, b" wrong\n");
 }
 
-// The line of a wrong answer: where the case stands, and what was answered.
+// The line of a wrong answer: where the case stands, and what was answered. A witness is read from the area.
 pub fn print_wrong(place: &[u8], number: u64, got: Outcome, area: &[u8]) {
     io::write_all(STDOUT_FILENO, place);
     io::print_decimal(STDOUT_FILENO, number);
     io::write_all(STDOUT_FILENO, b": got ");
     print_outcome(got);
     print_rows(area, got.count);
-    if !got.kept {
-        io::write_all(STDOUT_FILENO, b", lent memory not as it must be");
-    }
     io::write_all(STDOUT_FILENO, b"\n");
 }
 
 fn print_outcome(got: Outcome) {
-    if got.number != 0 {
-        io::write_all(STDOUT_FILENO, b"refused ");
-        io::print_decimal(STDOUT_FILENO, got.number);
-        io::write_all(STDOUT_FILENO, b" ");
-        io::print_decimal(STDOUT_FILENO, got.place);
-        return;
+    let number = got.number;
+    match number {
+        0 => {
+            print_value(got.minus, got.value);
+        }
+        Outcome::UNREAD => {
+            io::write_all(STDOUT_FILENO, b"a line that cannot be understood");
+        }
+        Outcome::SPOILED => {
+            io::write_all(STDOUT_FILENO, b"lent memory not as it must be");
+        }
+        _ => {
+            print_refusal(number, got.place);
+        }
     }
-    if got.minus {
+}
+
+fn print_value(minus: bool, value: u64) {
+    if minus {
         io::write_all(STDOUT_FILENO, b"-");
     }
-    io::print_decimal(STDOUT_FILENO, got.value);
+    io::print_decimal(STDOUT_FILENO, value);
+}
+
+fn print_refusal(number: u64, place: u64) {
+    io::write_all(STDOUT_FILENO, b"refused ");
+    io::print_decimal(STDOUT_FILENO, number);
+    io::write_all(STDOUT_FILENO, b" ");
+    io::print_decimal(STDOUT_FILENO, place);
 }
 
 // The rows of a witness.

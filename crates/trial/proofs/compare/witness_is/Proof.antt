@@ -11,32 +11,17 @@ Inv-loop line area count at₀ at = at ≤ length area
 abbrev μ-loop : tie.MeasureT-loop
 μ-loop line area count at₀ at = length area - at
 
+loop-holds : tie.Need-loop-holds Inv-loop μ-loop
+loop-holds c = search needs
+
+words-with-requires : tie.Need-words-with-requires Inv-loop μ-loop
+words-with-requires c κs = search needs
+
 ends-requires : tie.Need-ends-requires Inv-loop μ-loop
 ends-requires c κs = search needs
 
 returns : tie.Need-returns Inv-loop μ-loop
 returns c = search needs
-
-slice-aggregate-says : tie.Need-slice-aggregate-says Inv-loop μ-loop
-slice-aggregate-says c = search needs
-
-says-requires : tie.Need-says-requires Inv-loop μ-loop
-says-requires c κs = search needs
-
-returns-2 : tie.Need-returns-2 Inv-loop μ-loop
-returns-2 c = search needs
-
-loop-holds : tie.Need-loop-holds Inv-loop μ-loop
-loop-holds c = search needs
-
-add-ends : tie.Need-add-ends Inv-loop μ-loop
-add-ends c = search needs
-
-ends-requires-2 : tie.Need-ends-requires-2 Inv-loop μ-loop
-ends-requires-2 c κs = search needs
-
-returns-3 : tie.Need-returns-3 Inv-loop μ-loop
-returns-3 c = search needs
 
 add-counts : tie.Need-add-counts Inv-loop μ-loop
 add-counts c = search needs
@@ -50,8 +35,8 @@ cast-counts c = search needs
 counts-requires : tie.Need-counts-requires Inv-loop μ-loop
 counts-requires c κs = search needs
 
-returns-4 : tie.Need-returns-4 Inv-loop μ-loop
-returns-4 c = search needs
+returns-2 : tie.Need-returns-2 Inv-loop μ-loop
+returns-2 c = search needs
 
 add-at : tie.Need-add-at Inv-loop μ-loop
 add-at c = search needs
@@ -62,14 +47,14 @@ loop-less c = search needs
 loop-again : tie.Need-loop-again Inv-loop μ-loop
 loop-again c = search needs
 
-add-ends-2 : tie.Need-add-ends-2 Inv-loop μ-loop
-add-ends-2 c = search needs
+words-with-requires-2 : tie.Need-words-with-requires-2 Inv-loop μ-loop
+words-with-requires-2 c κs = search needs
 
-ends-requires-3 : tie.Need-ends-requires-3 Inv-loop μ-loop
-ends-requires-3 c κs = search needs
+ends-requires-2 : tie.Need-ends-requires-2 Inv-loop μ-loop
+ends-requires-2 c κs = search needs
 
-returns-5 : tie.Need-returns-5 Inv-loop μ-loop
-returns-5 c = search needs
+returns-3 : tie.Need-returns-3 Inv-loop μ-loop
+returns-3 c = search needs
 
 pub witness-is-spec : {M : Type 1} → statement M
 witness-is-spec =
@@ -77,23 +62,18 @@ witness-is-spec =
     (tie.spec
     Inv-loop
     μ-loop
+    loop-holds
+    words-with-requires
     ends-requires
     returns
-    slice-aggregate-says
-    says-requires
-    returns-2
-    loop-holds
-    add-ends
-    ends-requires-2
-    returns-3
     add-counts
     byte-at-requires
     cast-counts
     counts-requires
-    returns-4
+    returns-2
     add-at
     loop-less
     loop-again
-    add-ends-2
-    ends-requires-3
-    returns-5)
+    words-with-requires-2
+    ends-requires-2
+    returns-3)
