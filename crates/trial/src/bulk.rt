@@ -1,10 +1,10 @@
 // Bad files in bulk, made here, with the refusals that document 01 gives them.
-use crate::calls::judged;
-use crate::outcome::Outcome;
-use crate::report::Score;
-use crate::report::print_score;
-use crate::report::print_wrong;
-use crate::text::part;
+use casework::calls::judged;
+use casework::outcome::Outcome;
+use casework::report::Score;
+use casework::report::print_score;
+use casework::report::print_wrong;
+use casework::text::part;
 use sheet::reader::byte_at;
 ghost use Prim.Native.Nat.{_≤_};
 
@@ -15,7 +15,10 @@ pub fn run() -> Score {
     let headers = headers();
     print_score(b"every file of three bytes whose middle byte is 0", headers);
     let skipped = skipped_fields();
-    print_score(b"files of one skipped field, each tag and each length up to 255", skipped);
+    print_score(
+        b"files of one skipped field, each tag and each length up to 255",
+        skipped,
+    );
     short.and(headers).and(skipped)
 }
 
@@ -85,7 +88,12 @@ fn skipped_fields() -> Score {
         file[0] = (128 + number / 256) as u8;
         file[2] = length as u8;
         let size = 3 + length;
-        score = counted(score, number, part(&file, 0, size as usize), Outcome::refused(1, size));
+        score = counted(
+            score,
+            number,
+            part(&file, 0, size as usize),
+            Outcome::refused(1, size),
+        );
         number += 1;
     }
     score
@@ -97,7 +105,12 @@ pub fn prefixes(bytes: &[u8]) -> Score {
     let mut size: usize = 0;
     while size < bytes.len() {
         let file = part(bytes, 0, size);
-        score = counted(score, size as u64, file, Outcome::refused(1, last_start(file) as u64));
+        score = counted(
+            score,
+            size as u64,
+            file,
+            Outcome::refused(1, last_start(file) as u64),
+        );
         size += 1;
     }
     score

@@ -4,17 +4,17 @@ use crate::compare::Compared;
 use crate::compare::Lent;
 use crate::compare::compare;
 use crate::compare::unread;
-use crate::report::Score;
-use crate::report::print_score;
-use crate::report::print_wrong;
-use crate::text::Numeral;
-use crate::text::add_words;
-use crate::text::ends;
-use crate::text::find;
-use crate::text::number_of;
-use crate::text::part;
-use crate::text::says;
-use crate::text::word;
+use casework::report::Score;
+use casework::report::print_score;
+use casework::report::print_wrong;
+use casework::text::Numeral;
+use casework::text::add_words;
+use casework::text::ends;
+use casework::text::find;
+use casework::text::number_of;
+use casework::text::part;
+use casework::text::says;
+use casework::text::word;
 
 // Where the reading stands: the line's number, the size of the sheet, what is lent, where the line that names the group starts, and the scores of the group and of the groups before.
 struct State {
@@ -212,13 +212,7 @@ fn with_score(state: State, score: Score) -> State {
 }
 
 // A case on the sheet.
-fn read_case(
-    line: &[u8],
-    state: State,
-    bytes: &[u8],
-    cells: &mut [u32],
-    area: &mut [u8],
-) -> State {
+fn read_case(line: &[u8], state: State, bytes: &[u8], cells: &mut [u32], area: &mut [u8]) -> State {
     let lent = state.lent;
     let compared = compare(line, bytes, lent, cells, area);
     settled(state, compared, area)

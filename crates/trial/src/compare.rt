@@ -1,23 +1,23 @@
 // One case: what is answered, beside what the line says that must be answered.
+use casework::calls::CALLS;
+use casework::calls::Call;
+use casework::calls::call_of;
+use casework::calls::cells_used;
+use casework::calls::judged;
+use casework::calls::tried;
+use casework::memory::first_bytes;
+use casework::memory::first_cells;
+use casework::outcome::Outcome;
+use casework::outcome::said;
+use casework::text::Numeral;
+use casework::text::add_words;
+use casework::text::counts;
+use casework::text::ends;
+use casework::text::number_of;
+use casework::text::part;
+use casework::text::says;
+use casework::text::word;
 use check::same;
-use crate::calls::CALLS;
-use crate::calls::Call;
-use crate::calls::call_of;
-use crate::calls::cells_used;
-use crate::calls::judged;
-use crate::calls::tried;
-use crate::memory::first_bytes;
-use crate::memory::first_cells;
-use crate::outcome::Outcome;
-use crate::outcome::said;
-use crate::text::Numeral;
-use crate::text::add_words;
-use crate::text::counts;
-use crate::text::ends;
-use crate::text::number_of;
-use crate::text::part;
-use crate::text::says;
-use crate::text::word;
 use sheet::fields::Kind;
 use sheet::reader::Step;
 use sheet::reader::byte_at;
@@ -222,7 +222,13 @@ fn refused(line: &[u8], bytes: &[u8], cells: &mut [u32], area: &mut [u8]) -> Com
 fn refusal_by_all(bytes: &[u8], must: Outcome, cells: &mut [u32], area: &mut [u8]) -> Outcome {
     let mut made: u64 = 0;
     while made < 2 * CALLS {
-        let got = tried(call_of(made % CALLS), bytes, 1 + made / CALLS * 65536, cells, area);
+        let got = tried(
+            call_of(made % CALLS),
+            bytes,
+            1 + made / CALLS * 65536,
+            cells,
+            area,
+        );
         if !got.is(must) {
             return got;
         }
@@ -268,7 +274,10 @@ fn field(line: &[u8], bytes: &[u8]) -> Compared {
         return unread();
     };
     match field_at(bytes, place as usize) {
-        Step::Refusal { number, place } => held_to(Outcome::refused(number as u64, place as u64), said(line, 2)),
+        Step::Refusal { number, place } => held_to(
+            Outcome::refused(number as u64, place as u64),
+            said(line, 2),
+        ),
         Step::Field {
             kind,
             start,

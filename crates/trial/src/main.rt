@@ -1,12 +1,7 @@
 // Runs the cases on standard input and the bad files that it makes itself, and says how many answers were compared and how many were wrong.
 mod bulk;
-mod calls;
 mod cases;
 mod compare;
-mod memory;
-mod outcome;
-mod report;
-mod text;
 
 use libc::STDIN_FILENO;
 
@@ -15,5 +10,5 @@ fn main() {
     let size = io::read_full(STDIN_FILENO, &mut text);
     let told = cases::run(&text[..size]);
     let made = bulk::run();
-    report::print_score(b"in all", told.and(made));
+    casework::report::print_score(b"in all", told.and(made));
 }
