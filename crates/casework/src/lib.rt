@@ -1,5 +1,4 @@
-// What the trial is made of: words and numbers of its text, lent memory with a pattern in it, the calls that are tried, and what is printed of them.
-pub mod calls;
+// What the trial is made of: words and numbers of its text, lent memory with a pattern in it, what a call came to, and what is printed of it.
 pub mod memory;
 pub mod outcome;
 pub mod report;

@@ -1,7 +1,6 @@
 // Runs the cases on standard input and the bad files that it makes itself, and says how many answers were compared and how many were wrong.
 mod bulk;
 mod cases;
-mod compare;
 
 use libc::STDIN_FILENO;
 

@@ -1,10 +1,10 @@
 // The public calls, each made on memory that holds a pattern, with what it answers and whether it left the memory as it must.
-use crate::memory::bytes_kept;
-use crate::memory::cells_kept;
-use crate::memory::digest;
-use crate::memory::fill_bytes;
-use crate::memory::fill_cells;
-use crate::outcome::Outcome;
+use casework::memory::bytes_kept;
+use casework::memory::cells_kept;
+use casework::memory::digest;
+use casework::memory::fill_bytes;
+use casework::memory::fill_cells;
+use casework::outcome::Outcome;
 use desk::DemandAnswer;
 use desk::MarginAnswer;
 use desk::ShortestAnswer;

@@ -3,8 +3,8 @@ use Prim.Native.Nat.{_*_}
 use native.Mathlib.Nat.{mul-le-mul}
 use native.Mathlib.Omega.{arith}
 use borrow.Author.Needs.{needs}
-use Rattle.casework.proofs.calls.cells_for.Statement.{statement}
-use Rattle.casework.proofs.calls.cells_for.Tie as tie
+use Rattle.asking.proofs.calls.cells_for.Statement.{statement}
+use Rattle.asking.proofs.calls.cells_for.Tie as tie
 
 returns : tie.Need-returns
 returns c = search needs

@@ -1,10 +1,10 @@
 // One case: what is answered, beside what the line says that must be answered.
-use casework::calls::CALLS;
-use casework::calls::Call;
-use casework::calls::call_of;
-use casework::calls::cells_used;
-use casework::calls::judged;
-use casework::calls::tried;
+use crate::calls::CALLS;
+use crate::calls::Call;
+use crate::calls::call_of;
+use crate::calls::cells_used;
+use crate::calls::judged;
+use crate::calls::tried;
 use casework::memory::first_bytes;
 use casework::memory::first_cells;
 use casework::outcome::Outcome;
