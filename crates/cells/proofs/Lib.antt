@@ -10,4 +10,5 @@ pub mod Writing
 pub mod Amounts
 pub mod Storing
 pub mod Releases
+pub mod SheetTasks
 pub mod Sweeping

@@ -1,31 +1,46 @@
 -- Fixed demand from one interval to the next: a task's demand grows by its length when its next job falls due, and not before.
-use mathlib.Core.Path.{_≡_, refl, _∙_, sym, ap, ap₂}
+use mathlib.Core.Path.{_≡_, refl, _∙_, sym, ap}
 use mathlib.Core.Logic.{⊎-elim}
-use mathlib.Core.List.{List, [], _∷_}
+use mathlib.Core.List.{List}
 use Prim.Native.Nat.{ℕ, zero, suc, _+_, _*_, _-_, _/_, _≤_, _<_, max}
-use native.Mathlib.Nat.{div-eq-of-lt-le, mul-le-mul, eq-or-lt-of-le}
+use native.Mathlib.Nat.{div-eq-of-lt-le, eq-or-lt-of-le}
 use native.Mathlib.Numerals.{add-one}
 use native.Mathlib.Omega.{arith}
 use borrow.Author.Tests.{eq-eqb, ne-eqb, eqb-true, eqb-false}
 use lib.Dec.{eqb}
 use lib.ListN.{length, getD, set, take, length-set}
-use lib.Seq.{getD-set-same, getD-set-other, take-all, take-length}
+use lib.Seq.{getD-set-same, getD-set-other, take-length}
 use Rattle.walks.specs.Fixed.{Task, fixedOf, fixedSum}
 use Rattle.walks.proofs.FixedTasks.{fixed-before, fixed-from, fixed-more}
 use Rattle.walks.proofs.Tests.{bool-or, lt-or}
-use Rattle.sheet.specs.Limits.{taskLimit}
-use Rattle.sheet.specs.Meaning.{timesOf, tasksOf}
+use Rattle.sheet.specs.Meaning.{timesOf}
 use Rattle.sheet.specs.Values.{noTask}
-use Rattle.sheet.specs.declared.values.Sheet.{Sheet}
-use Rattle.sheet.proofs.ProperTasks.{ProperTimes, tasks-count, task-of, tasks-proper}
-use Rattle.cells.specs.Releases.{IsProper, taskAt, NextDue, Running, workDue, dueAfter, Advanced, AreTimes}
-use Rattle.cells.specs.declared.tasks.Times.{Times}
+use Rattle.cells.specs.Releases.{workDue, dueAfter, Advanced}
+
+-- the task of a number, one of zeros past the last
+abbrev pub taskAt : List Task → ℕ → Task
+taskAt tasks i = getD tasks i (timesOf noTask)
+
+-- the first job of a task that falls due after t does so at `due`, after `jobs` others
+pub record NextDue (task : Task) (t due : ℕ) : Type 0 where
+  pub jobs : ℕ
+  pub is : due ≡ task .deadline + task .period * jobs
+  pub after : t < due
+  pub first : due ≤ max (task .deadline) (t + task .period)
+
+-- at t: the arrays hold each task's length and period, and when its next job falls due, and the sum is fixed demand
+pub record Running (tasks : List Task) (lengths periods dues : List ℕ) (t sum : ℕ) : Type 0 where
+  pub positive : (i : ℕ) → i < length tasks → 1 ≤ taskAt tasks i .period
+  pub lengths-are : (i : ℕ) → i < length tasks → getD lengths i 0 ≡ taskAt tasks i .length
+  pub periods-are : (i : ℕ) → i < length tasks → getD periods i 0 ≡ taskAt tasks i .period
+  pub next : (i : ℕ) → i < length tasks → NextDue (taskAt tasks i) t (getD dues i 0)
+  pub sum-is : sum ≡ fixedSum tasks t
 
 -- ---- one task
 
 module _ (task : Task) (positive : 1 ≤ task .period) where
   -- fixed demand at t is one length for each job that fell due by then
-  pub fixed-by-jobs : (t due : ℕ) (next : NextDue task t due) → fixedOf task t ≡ task .length * next .jobs
+  fixed-by-jobs : (t due : ℕ) (next : NextDue task t due) → fixedOf task t ≡ task .length * next .jobs
   fixed-by-jobs t due next =
       ⊎-elim
       (λ l. omega (arith, fixed-before task t l, ap (λ (j : ℕ). task .length * j) (before l (next .jobs) refl)))
@@ -49,7 +64,7 @@ module _ (task : Task) (positive : 1 ≤ task .period) where
 
   module _ (t due : ℕ) (next : NextDue task t due) where
     -- where its next job falls due at t + 1, demand grows by its length, and the job after that comes a period later
-    pub due-now : due ≡ t + 1 → NextDue task (t + 1) (t + 1 + task .period) × (fixedOf task (t + 1) ≡ fixedOf task t + task .length)
+    due-now : due ≡ t + 1 → NextDue task (t + 1) (t + 1 + task .period) × (fixedOf task (t + 1) ≡ fixedOf task t + task .length)
     due-now e =
         let later : NextDue task (t + 1) (t + 1 + task .period) = record {
           jobs = next .jobs + 1;
@@ -60,7 +75,7 @@ module _ (task : Task) (positive : 1 ≤ task .period) where
         (later, fixed-by-jobs (t + 1) (t + 1 + task .period) later ∙ omega (arith, fixed-by-jobs t due next))
 
     -- where it does not, demand stays, and so does the next job
-    pub due-later : (due ≡ t + 1 → ⊥) → NextDue task (t + 1) due × (fixedOf task (t + 1) ≡ fixedOf task t)
+    due-later : (due ≡ t + 1 → ⊥) → NextDue task (t + 1) due × (fixedOf task (t + 1) ≡ fixedOf task t)
     due-later other =
         let same : NextDue task (t + 1) due = record {
           jobs = next .jobs;
@@ -78,20 +93,20 @@ module _ (task : Task) (positive : 1 ≤ task .period) where
 
 module _ (lengths periods dues : List ℕ) (t i : ℕ) where
   -- a task whose job falls due at t
-  pub now-work : getD dues i 0 ≡ t → workDue lengths dues t (suc i) ≡ workDue lengths dues t i + getD lengths i 0
+  now-work : getD dues i 0 ≡ t → workDue lengths dues t (suc i) ≡ workDue lengths dues t i + getD lengths i 0
   unfolding workDue
   now-work e = rw (eq-eqb (getD dues i 0) t e)
 
-  pub now-due : getD dues i 0 ≡ t → dueAfter periods dues t i ≡ t + getD periods i 0
+  now-due : getD dues i 0 ≡ t → dueAfter periods dues t i ≡ t + getD periods i 0
   unfolding dueAfter
   now-due e = rw (eq-eqb (getD dues i 0) t e)
 
   -- another
-  pub later-work : (getD dues i 0 ≡ t → ⊥) → workDue lengths dues t (suc i) ≡ workDue lengths dues t i
+  later-work : (getD dues i 0 ≡ t → ⊥) → workDue lengths dues t (suc i) ≡ workDue lengths dues t i
   unfolding workDue
   later-work e = rw (ne-eqb (getD dues i 0) t e) (omega arith)
 
-  pub later-due : (getD dues i 0 ≡ t → ⊥) → dueAfter periods dues t i ≡ getD dues i 0
+  later-due : (getD dues i 0 ≡ t → ⊥) → dueAfter periods dues t i ≡ getD dues i 0
   unfolding dueAfter
   later-due e = rw (ne-eqb (getD dues i 0) t e)
 
@@ -183,55 +198,3 @@ module _ (tasks : List Task) (lengths periods dues : List ℕ) (t sum : ℕ) (ru
     next = λ i h. rw (advanced .next i h) (task-on i h .0);
     sum-is = omega (arith, running .sum-is, advanced .due, rw (take-length tasks) at (sum-on (length tasks) (omega arith)));
   }
-
--- ---- the tasks of a sheet
-
-module _ (sheet : Sheet) (accepted : IsProper sheet) where
-  tasks : List Task
-  tasks = tasksOf sheet
-
-  proper : (i : ℕ) → i < length tasks → ProperTimes (taskAt tasks i)
-  unfolding tasks
-  proper i h = tasks-proper (accepted .0) sheet (accepted .1) i (timesOf noTask) h
-
-  -- fixed demand task by task
-  pub sum-more : (i t : ℕ) → i < sheet .tally .tasks
-      → fixedSum (take (i + 1) (tasksOf sheet)) t ≡ fixedSum (take i (tasksOf sheet)) t + fixedOf (timesOf (getD (sheet .tasks) i noTask)) t
-  sum-more i t h =
-      rw (add-one i)
-      (fixed-more (tasksOf sheet) i (timesOf noTask) t (omega (arith, tasks-count (accepted .0) sheet (accepted .1)))
-      ∙ ap (λ (task : Task). fixedSum (take i (tasksOf sheet)) t + fixedOf task t) (task-of (accepted .0) sheet (accepted .1) i (timesOf noTask) h))
-
-  pub sum-all : (t : ℕ) → fixedSum (take (sheet .tally .tasks) (tasksOf sheet)) t ≡ fixedSum (tasksOf sheet) t
-  sum-all t =
-      ap (λ (some : List Task). fixedSum some t)
-      (take-all (sheet .tally .tasks) (tasksOf sheet) (omega (arith, tasks-count (accepted .0) sheet (accepted .1))))
-
-  -- nothing falls due at 0
-  none-yet : (i : ℕ) → i ≤ length tasks → fixedSum (take i tasks) 0 ≡ 0
-  unfolding fixedSum
-  none-yet zero h = refl
-  none-yet (suc i) h =
-      omega (arith, none-yet i (omega arith), fixed-more tasks i (timesOf noTask) 0 h, fixed-before (taskAt tasks i) 0 (proper i h .deadline .0))
-
-  -- at 0 the next jobs are the first ones
-  pub running-start : (times : Times) → AreTimes sheet times → Running (tasksOf sheet) (times .lengths) (times .periods) (times .dues) 0 0
-  unfolding tasks
-  running-start times are = record {
-    positive = λ i h. proper i h .period .0;
-    lengths-are = λ i h. are .lengths i (few i h) ∙ sym (ap (λ (task : Task). task .length) (same i h));
-    periods-are = λ i h. are .periods i (few i h) ∙ sym (ap (λ (task : Task). task .period) (same i h));
-    next = λ i h.
-        let due : getD (times .dues) i 0 ≡ taskAt tasks i .deadline = are .dues i (few i h) ∙ sym (ap (λ (task : Task). task .deadline) (same i h)) in
-        rw due (due-first (taskAt tasks i) (proper i h .period .0) (proper i h .deadline .0));
-    sum-is = sym (rw (take-length tasks) at (none-yet (length tasks) (omega arith)));
-  }
-    where
-      within : (i : ℕ) → i < length (tasksOf sheet) → i < sheet .tally .tasks
-      within i h = omega (arith, tasks-count (accepted .0) sheet (accepted .1))
-
-      few : (i : ℕ) → i < length (tasksOf sheet) → i < taskLimit
-      few i h = omega (arith, within i h, accepted .1 .tasks-most)
-
-      same : (i : ℕ) → i < length (tasksOf sheet) → taskAt (tasksOf sheet) i ≡ timesOf (getD (sheet .tasks) i noTask)
-      same i h = task-of (accepted .0) sheet (accepted .1) i (timesOf noTask) (within i h)

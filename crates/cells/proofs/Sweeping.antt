@@ -3,7 +3,7 @@ use mathlib.Core.Path.{_≡_, sym, ap, ap₂, subst, _∙_}
 use mathlib.Core.Logic.{⊎-elim, inl, inr}
 use mathlib.Core.Bool.{Bool, true, false, false≢true}
 use mathlib.Core.List.{List}
-use Prim.Native.Nat.{ℕ, suc, _+_, _-_, _*_, _^_, _≤_, _<_}
+use Prim.Native.Nat.{ℕ, suc, _+_, _-_, _≤_, _<_}
 use native.Mathlib.Nat.{eq-or-lt-of-le}
 use native.Mathlib.Numerals.{add-one}
 use native.Mathlib.Omega.{arith}
@@ -23,11 +23,13 @@ use Rattle.sheet.specs.Meaning.{graphOf, tasksOf}
 use Rattle.sheet.specs.declared.values.Sheet.{Sheet}
 use Rattle.cells.specs.Lines.{HasLines}
 use Rattle.cells.specs.Ready.{Ready}
-use Rattle.cells.specs.Releases.{Running, Advanced}
-use Rattle.cells.specs.Sweeping.{overAt, reachedAt}
+use Rattle.cells.specs.Releases.{Advanced}
+use Rattle.cells.specs.Sweeping.{overAt, reachedAt, overrunAt, tableOf}
+use Rattle.cells.specs.declared.sweep.Table.{Table}
+use Rattle.cells.specs.declared.sweep.Table.the-variants.{Interval, Amount}
 use Rattle.cells.proofs.Amounts.{line-shortest}
 use Rattle.cells.proofs.Lines.{line-demand}
-use Rattle.cells.proofs.Releases.{running-on}
+use Rattle.cells.proofs.Releases.{Running, running-on}
 
 -- ---- the tests
 
@@ -59,17 +61,13 @@ module _ (g : Graph) (sound : Sound g) (tasks : List Task) (cells : List ℕ) (h
         (λ e. ⊎-elim (λ l. absurd (false≢true (sym e ∙ rw (lt-ltb t f l)))) (λ l. met .1 (l, leb-false x t (rw (le-ltb t f l) at e))) (lt-or t f)),
       )
 
--- the same of the graph of a sheet
-module _ (bytes : List ℕ) (sheet : Sheet) (ready : Ready bytes sheet) (cells : List ℕ) (horizon : ℕ) where
-  pub sheet-interval-decides : HasLines (sheet .tally .rows) (ByInterval (graphOf bytes sheet)) cells (horizon + 1)
-      → Decides (graphOf bytes sheet) (tasksOf sheet) horizon (overAt (sheet .tally .rows) cells)
-  unfolding graphOf
-  sheet-interval-decides = interval-decides (graphOf bytes sheet) (ready .sound) (tasksOf sheet) cells horizon
-
-  pub sheet-amount-decides : horizon ≤ longestTime → HasLines (sheet .tally .rows) (ByAmount (graphOf bytes sheet)) cells (horizon + 1)
-      → Decides (graphOf bytes sheet) (tasksOf sheet) horizon (reachedAt (sheet .tally .rows) cells)
-  unfolding graphOf
-  sheet-amount-decides = amount-decides (graphOf bytes sheet) (ready .sound) (tasksOf sheet) cells horizon
+-- so the test that goes with a table is right of the graph of a sheet
+pub sheet-decides : (table : Table) (bytes : List ℕ) (sheet : Sheet) → Ready bytes sheet → (cells : List ℕ) (horizon : ℕ) → horizon ≤ longestTime
+    → HasLines (sheet .tally .rows) (tableOf table (graphOf bytes sheet)) cells (horizon + 1)
+    → Decides (graphOf bytes sheet) (tasksOf sheet) horizon (overrunAt table (sheet .tally .rows) cells)
+unfolding graphOf
+sheet-decides Interval bytes sheet ready cells horizon short = interval-decides (graphOf bytes sheet) (ready .sound) (tasksOf sheet) cells horizon
+sheet-decides Amount bytes sheet ready cells horizon short = amount-decides (graphOf bytes sheet) (ready .sound) (tasksOf sheet) cells horizon short
 
 -- ---- the loop
 

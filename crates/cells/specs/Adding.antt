@@ -3,7 +3,7 @@ use mathlib.Core.Bool.{cond}
 use mathlib.Core.List.{List}
 use Prim.Native.Nat.{ℕ, _-_, max}
 use lib.Dec.{leb}
-use Rattle.sets.specs.Sets.{foldBelow}
+use Rattle.sets.specs.Sets.{width, foldBelow}
 use Rattle.walks.specs.Computed.{cellAt, stepAt}
 use Rattle.sheet.specs.Meaning.{gapOf}
 use Rattle.sheet.specs.declared.values.Row.{Row}
@@ -17,7 +17,7 @@ addedAt n cells s gap j =
 
 -- the most that a follower adds
 unfoldable pub mostAdded : List ℕ → List ℕ → ℕ → ℕ → ℕ → ℕ → ℕ
-mostAdded bytes cells followers place n s = foldBelow (λ j most. max most (addedAt n cells s (gapTo bytes followers place j) j)) 0 followers 64
+mostAdded bytes cells followers place n s = foldBelow (λ j most. max most (addedAt n cells s (gapTo bytes followers place j) j)) 0 followers width
 
 -- the cell of a row in the line s, from the cells of the lines before
 abbrev pub cellOf : List ℕ → List ℕ → Row → ℕ → ℕ → ℕ → ℕ

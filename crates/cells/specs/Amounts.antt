@@ -1,7 +1,7 @@
 -- The end times by way of a row's followers, told by the numbers that the code has: a set of rows, and the place of the first gap in the file.
 use mathlib.Core.List.{List}
 use Prim.Native.Nat.{ℕ, _+_, min}
-use Rattle.sets.specs.Sets.{foldBelow}
+use Rattle.sets.specs.Sets.{width, foldBelow}
 use Rattle.walks.specs.Demand.{noTime}
 use Rattle.walks.specs.Computed.{cellAt, timeOrNone}
 use Rattle.cells.specs.Followers.{gapTo}
@@ -12,4 +12,4 @@ soonerVia bytes cells followers place n line j time = min time (timeOrNone (gapT
 
 -- the soonest of them, `noTime` where there is none
 unfoldable pub soonestVia : List ℕ → List ℕ → ℕ → ℕ → ℕ → ℕ → ℕ
-soonestVia bytes cells followers place n line = foldBelow (soonerVia bytes cells followers place n line) noTime followers 64
+soonestVia bytes cells followers place n line = foldBelow (soonerVia bytes cells followers place n line) noTime followers width

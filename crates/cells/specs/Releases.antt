@@ -1,13 +1,11 @@
--- Fixed demand as it grows from interval to interval: when each task's next job falls due, and what falls due at an interval.
+-- Fixed demand as the code lets it grow from interval to interval: what falls due at an interval, and when each task's next job does.
 use mathlib.Core.Path.{_≡_}
 use mathlib.Core.Bool.{cond}
 use mathlib.Core.List.{List}
-use Prim.Native.Nat.{ℕ, zero, suc, _+_, _*_, _≤_, _<_, max}
+use Prim.Native.Nat.{ℕ, zero, suc, _+_, _<_}
 use lib.Dec.{eqb}
 use lib.ListN.{length, getD}
-use Rattle.walks.specs.Fixed.{Task, fixedSum}
 use Rattle.sheet.specs.Limits.{taskLimit}
-use Rattle.sheet.specs.Meaning.{timesOf}
 use Rattle.sheet.specs.Proper.{Proper}
 use Rattle.sheet.specs.Values.{noTask}
 use Rattle.sheet.specs.declared.values.Sheet.{Sheet}
@@ -16,25 +14,6 @@ use Rattle.cells.specs.declared.tasks.Times.{Times}
 -- what the functions of the fixed tasks ask of a sheet: its values are those of an accepted one, whatever its bytes are
 abbrev pub IsProper : Sheet → Type 0
 IsProper sheet = (bytes : List ℕ) × Proper bytes sheet
-
--- the task of a number, one of zeros past the last
-abbrev pub taskAt : List Task → ℕ → Task
-taskAt tasks i = getD tasks i (timesOf noTask)
-
--- the first job of a task that falls due after t does so at `due`, after `jobs` others
-pub record NextDue (task : Task) (t due : ℕ) : Type 0 where
-  pub jobs : ℕ
-  pub is : due ≡ task .deadline + task .period * jobs
-  pub after : t < due
-  pub first : due ≤ max (task .deadline) (t + task .period)
-
--- at t: the arrays hold each task's length and period, and when its next job falls due, and the sum is fixed demand
-pub record Running (tasks : List Task) (lengths periods dues : List ℕ) (t sum : ℕ) : Type 0 where
-  pub positive : (i : ℕ) → i < length tasks → 1 ≤ taskAt tasks i .period
-  pub lengths-are : (i : ℕ) → i < length tasks → getD lengths i 0 ≡ taskAt tasks i .length
-  pub periods-are : (i : ℕ) → i < length tasks → getD periods i 0 ≡ taskAt tasks i .period
-  pub next : (i : ℕ) → i < length tasks → NextDue (taskAt tasks i) t (getD dues i 0)
-  pub sum-is : sum ≡ fixedSum tasks t
 
 -- what falls due at t: the lengths of those of the first tasks whose next job does
 unfoldable pub workDue : List ℕ → List ℕ → ℕ → ℕ → ℕ

@@ -4,6 +4,7 @@ use mathlib.Core.List.{List}
 use Prim.Native.Nat.{ℕ, _+_, _-_}
 use lib.Dec.{leb, ltb}
 use Rattle.walks.specs.Graph.{Graph}
+use Rattle.walks.specs.Cells.{ByInterval, ByAmount}
 use Rattle.walks.specs.Demand.{noTime}
 use Rattle.walks.specs.Computed.{cellAt, cellFor, maxBelow, minBelow}
 use Rattle.walks.specs.Verdict.{Verdict, holds, overrun, IsVerdict}
@@ -13,6 +14,8 @@ use Rattle.cells.specs.Lines.{HasLines}
 use Rattle.cells.specs.Ready.{Ready}
 use Rattle.cells.specs.declared.sweep.Swept.{Swept}
 use Rattle.cells.specs.declared.sweep.Swept.the-variants.{Holds, Overrun}
+use Rattle.cells.specs.declared.sweep.Table.{Table}
+use Rattle.cells.specs.declared.sweep.Table.the-variants.{Interval, Amount}
 
 -- the verdict that an answer stands for
 abbrev pub verdictOf : Swept → Verdict
@@ -29,8 +32,18 @@ reachedAt n cells t fixed =
     let reached = leb (minBelow n noTime (cellFor n cells (t - fixed + 1))) t in
     ltb t fixed || reached
 
+-- the one of the two that goes with a table
+abbrev pub overrunAt : Table → ℕ → List ℕ → ℕ → ℕ → Bool
+overrunAt Interval = overAt
+overrunAt Amount = reachedAt
+
+-- what a table's cells are right for
+abbrev pub tableOf : Table → Graph → ℕ → ℕ → ℕ → Type 0
+tableOf Interval = ByInterval
+tableOf Amount = ByAmount
+
 -- whatever file the sheet is of, if the cells hold the lines of its table up to the horizon, the answer is the verdict
 abbrev pub IsSwept : (Graph → ℕ → ℕ → ℕ → Type 0) → Sheet → List ℕ → ℕ → Swept → Type 0
-IsSwept Table sheet cells horizon answer =
-    (bytes : List ℕ) → Ready bytes sheet → HasLines (sheet .tally .rows) (Table (graphOf bytes sheet)) cells (horizon + 1)
+IsSwept Right sheet cells horizon answer =
+    (bytes : List ℕ) → Ready bytes sheet → HasLines (sheet .tally .rows) (Right (graphOf bytes sheet)) cells (horizon + 1)
     → IsVerdict (graphOf bytes sheet) (tasksOf sheet) horizon (verdictOf answer)

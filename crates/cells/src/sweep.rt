@@ -10,12 +10,18 @@ ghost use lib.ListN.{length};
 ghost use Rattle.walks.specs.Cells.{ByInterval, ByAmount};
 ghost use Rattle.walks.specs.Demand.{longestTime};
 ghost use Rattle.cells.specs.Releases.{IsProper};
-ghost use Rattle.cells.specs.Sweeping.{IsSwept, overAt, reachedAt};
+ghost use Rattle.cells.specs.Sweeping.{tableOf, IsSwept, overAt, reachedAt, overrunAt};
 
 // No interval from 1 to the horizon is overrun, or this is the first.
 pub enum Swept {
     Holds,
     Overrun(usize),
+}
+
+// Which table the cells hold.
+enum Table {
+    Interval,
+    Amount,
 }
 
 // The sweep over the table by interval.
@@ -25,21 +31,7 @@ pub fn sweep_by_interval(sheet: Sheet, cells: &[u32], horizon: usize) -> Swept
     requires { ⌜ sheet .tally .rows * (horizon + 1) ≤ length (now cells) ⌝ }
     ensures { λ r. ⌜ IsSwept ByInterval sheet (now (cells .entry)) horizon r ⌝ }
 {
-    let tally = sheet.tally;
-    let times = times_of(sheet);
-    let lengths = times.lengths;
-    let periods = times.periods;
-    let mut dues = times.dues;
-    let mut fixed: u64 = 0;
-    let mut t: usize = 0;
-    while t < horizon {
-        t += 1;
-        fixed += advance(&lengths, &periods, &mut dues, tally.tasks, t);
-        if over_at(cells, tally.rows, t, fixed) {
-            return Swept::Overrun(t);
-        }
-    }
-    Swept::Holds
+    sweep(Table::Interval, sheet, cells, horizon)
 }
 
 // The sweep over the table by amount.
@@ -48,6 +40,16 @@ pub fn sweep_by_amount(sheet: Sheet, cells: &[u32], horizon: usize) -> Swept
     requires { ⌜ horizon ≤ longestTime ⌝ }
     requires { ⌜ sheet .tally .rows * (horizon + 1) ≤ length (now cells) ⌝ }
     ensures { λ r. ⌜ IsSwept ByAmount sheet (now (cells .entry)) horizon r ⌝ }
+{
+    sweep(Table::Amount, sheet, cells, horizon)
+}
+
+// One interval after the other, with fixed demand running along, up to the first overrun.
+fn sweep(table: Table, sheet: Sheet, cells: &[u32], horizon: usize) -> Swept
+    requires { ⌜ IsProper sheet ⌝ }
+    requires { ⌜ horizon ≤ longestTime ⌝ }
+    requires { ⌜ sheet .tally .rows * (horizon + 1) ≤ length (now cells) ⌝ }
+    ensures { λ r. ⌜ IsSwept (tableOf table) sheet (now (cells .entry)) horizon r ⌝ }
 {
     let tally = sheet.tally;
     let times = times_of(sheet);
@@ -59,11 +61,24 @@ pub fn sweep_by_amount(sheet: Sheet, cells: &[u32], horizon: usize) -> Swept
     while t < horizon {
         t += 1;
         fixed += advance(&lengths, &periods, &mut dues, tally.tasks, t);
-        if reached_at(cells, tally.rows, t, fixed) {
+        if overrun_at(table, cells, tally.rows, t, fixed) {
             return Swept::Overrun(t);
         }
     }
     Swept::Holds
+}
+
+// Whether an interval is overrun, by the line of a table and fixed demand.
+fn overrun_at(table: Table, cells: &[u32], n: usize, t: usize, fixed: u64) -> bool
+    requires { ⌜ n * (t + 1) ≤ length (now cells) ⌝ }
+    requires { ⌜ t ≤ longestTime ⌝ }
+    requires { ⌜ fixed < 2 ^ 48 ⌝ }
+    ensures { λ r. ⌜ r ≡ overrunAt table n (now (cells .entry)) t fixed ⌝ }
+{
+    match table {
+        Table::Interval => over_at(cells, n, t, fixed),
+        Table::Amount => reached_at(cells, n, t, fixed),
+    }
 }
 
 // Whether the largest cell of the line t and fixed demand are more than t.
@@ -77,8 +92,8 @@ fn over_at(cells: &[u32], n: usize, t: usize, fixed: u64) -> bool
 
 // Whether fixed demand alone is more than t, or what it leaves of t and one more is reached by t.
 fn reached_at(cells: &[u32], n: usize, t: usize, fixed: u64) -> bool
-    requires { ⌜ t ≤ longestTime ⌝ }
     requires { ⌜ n * (t + 1) ≤ length (now cells) ⌝ }
+    requires { ⌜ t ≤ longestTime ⌝ }
     ensures { λ r. ⌜ r ≡ reachedAt n (now (cells .entry)) t fixed ⌝ }
 {
     let whole = t as u64;

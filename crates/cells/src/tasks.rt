@@ -11,7 +11,7 @@ ghost use Rattle.sheet.specs.Meaning.{timesOf, tasksOf};
 ghost use Rattle.cells.specs.Releases.{IsProper, AreTimes, Advanced};
 
 // The times of the fixed tasks as numbers, since only arrays of numbers are lent: each task's length and period, and when its next job falls due.
-pub struct Times {
+pub(crate) struct Times {
     pub lengths: [u16; Sheet::TASKS],
     pub periods: [u16; Sheet::TASKS],
     pub dues: [usize; Sheet::TASKS],
@@ -50,7 +50,7 @@ fn fixed_of(task: Task, t: usize) -> u64
 }
 
 // The times of a sheet's tasks before the first interval.
-pub fn times_of(sheet: Sheet) -> Times
+pub(crate) fn times_of(sheet: Sheet) -> Times
     ensures { λ r. ⌜ AreTimes sheet r ⌝ }
 {
     let mut lengths = [0u16; Sheet::TASKS];
@@ -72,7 +72,7 @@ pub fn times_of(sheet: Sheet) -> Times
 }
 
 // What falls due at t. A task whose job does so waits for its next one, a period later, so that no interval takes a division.
-pub fn advance(
+pub(crate) fn advance(
     lengths: &[u16; Sheet::TASKS],
     periods: &[u16; Sheet::TASKS],
     dues: &mut [usize; Sheet::TASKS],

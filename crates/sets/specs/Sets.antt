@@ -1,9 +1,13 @@
--- Sets of rows as numbers: bit j says whether row j is in the set. No width stands here, since a number has as many bits as one asks for.
+-- Sets of rows as numbers: bit j says whether row j is in the set. The definitions know no width, since a number has as many bits as one asks for.
 use mathlib.Core.Bool.{Bool}
 use Prim.Native.Nat.{ℕ, zero, suc, _+_, _/_, _%_, _^_}
 use lib.Dec.{eqb}
 use Rattle.sets.specs.declared.Next.{Next}
 use Rattle.sets.specs.declared.Next.the-variants.{At, Nothing}
+
+-- how many bits a set has in code
+abbrev pub width : ℕ
+width = 64
 
 -- bit j of the set s: 1 where row j is in it, else 0
 abbrev pub bit : ℕ → ℕ → ℕ

@@ -1,7 +1,10 @@
 // Sets of rows as numbers, bit j for row j: whether a row is in one, how many of its rows stand below a row, and which comes next.
 ghost use mathlib.Core.Path.{_≡_};
 ghost use Prim.Native.Nat.{_-_, _*_, _≤_};
-ghost use Rattle.sets.specs.Sets.{member, below, nextIn};
+ghost use Rattle.sets.specs.Sets.{width, member, below, nextIn};
+
+// How many bits a set has.
+pub const WIDTH: usize = 64;
 
 // What a search from a place finds: a row, or that no row is left.
 pub enum Next {
@@ -9,11 +12,11 @@ pub enum Next {
     Nothing,
 }
 
-// Whether a row is in the set. A set has 64 bits, so no row from 64 on is.
+// Whether a row is in the set. No row from the width on is.
 pub fn contains(set: u64, row: usize) -> bool
     ensures { λ r. ⌜ r ≡ member set row ⌝ }
 {
-    if row < 64 {
+    if row < WIDTH {
         return (set >> row) % 2 == 1;
     }
     false
@@ -21,8 +24,8 @@ pub fn contains(set: u64, row: usize) -> bool
 
 // How many rows are in the set.
 pub fn size(set: u64) -> usize
-    ensures { λ r. ⌜ r ≡ below set 64 ⌝ }
-    ensures { λ r. ⌜ r ≤ 64 ⌝ }
+    ensures { λ r. ⌜ r ≡ below set width ⌝ }
+    ensures { λ r. ⌜ r ≤ width ⌝ }
 {
     u64::count_ones(set) as usize
 }
@@ -30,9 +33,9 @@ pub fn size(set: u64) -> usize
 // How many rows of the set stand below a row. The remainder by the row's bit keeps those rows and no other.
 pub fn below_row(set: u64, row: usize) -> usize
     ensures { λ r. ⌜ r ≡ below set row ⌝ }
-    ensures { λ r. ⌜ r ≤ 64 ⌝ }
+    ensures { λ r. ⌜ r ≤ width ⌝ }
 {
-    if 64 <= row {
+    if WIDTH <= row {
         return size(set);
     }
     let one: u64 = 1;
@@ -49,9 +52,9 @@ pub fn gap_place(set: u64, row: usize) -> usize
 
 // The first row of the set at a place or after it.
 pub fn next_from(set: u64, from: usize) -> Next
-    ensures { λ r. ⌜ r ≡ nextIn (64 - from) set from ⌝ }
+    ensures { λ r. ⌜ r ≡ nextIn (width - from) set from ⌝ }
 {
-    if 64 <= from {
+    if WIDTH <= from {
         return Next::Nothing;
     }
     let rest = set >> from;

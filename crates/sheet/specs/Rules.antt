@@ -4,7 +4,7 @@ use mathlib.Core.List.{List, [], _∷_}
 use mathlib.Core.Bool.{Bool, true, false, not}
 use lib.ListN.{getD}
 use lib.Dec.{ltb, leb, eqb}
-use Rattle.sets.specs.Sets.{below, nextIn}
+use Rattle.sets.specs.Sets.{width, below, nextIn}
 use Rattle.sets.specs.declared.Next.{Next}
 use Rattle.sets.specs.declared.Next.the-variants.{At, Nothing}
 use Rattle.sheet.specs.Deciding.{Rule, _when_, _or_, pick, anyFrom}
@@ -32,7 +32,7 @@ wrongLength tag size = ltb size (lineOf tag .shortest) or ltb (lineOf tag .longe
 
 -- how many rows are in a follower set
 abbrev pub followerCount : ℕ → ℕ
-followerCount followers = below followers 64
+followerCount followers = below followers width
 
 -- 5: a row's length that is not its head and one gap for each row of its follower set
 unfoldable pub unlikeSet : ℕ → ℕ → Bool
@@ -73,7 +73,7 @@ isAt Nothing = false
 
 -- 9 of one set: it has a row at or after the number of rows
 unfoldable pub unknownIn : ℕ → ℕ → Bool
-unknownIn followers rows = isAt (nextIn (64 - rows) followers rows)
+unknownIn followers rows = isAt (nextIn (width - rows) followers rows)
 
 -- 9: one of the rows names a row that does not exist
 unfoldable pub unknownFollower : List Row → ℕ → Bool

@@ -26,9 +26,9 @@ ghost use mathlib.Core.Path.{_≡_};
 ghost use Prim.Native.Nat.{_+_, _*_, _<_, _≤_};
 ghost use lib.ListN.{length};
 ghost use Rattle.sheet.specs.Deciding.{firstBroken};
-ghost use Rattle.sets.specs.Sets.{below};
+ghost use Rattle.sheet.specs.Limits.{modeLimit, rowLimit, taskLimit, headSize, gapSize};
 ghost use Rattle.sheet.specs.Reading.{rpmAt, ticksAt, modeAt, rowAt, taskAt};
-ghost use Rattle.sheet.specs.Rules.{badText, gapShorter, wrongRow, unknownFollower, rowGapRules};
+ghost use Rattle.sheet.specs.Rules.{followerCount, badText, gapShorter, wrongRow, unknownFollower, rowGapRules};
 ghost use Rattle.sheet.specs.Values.{withLabel, withMode, withRow, withTask};
 ghost use Rattle.sheet.specs.Judging.{refusal, refusedAt, goesOn, acceptedAs, labelJudged, modeJudged, rowJudged, taskJudged, endJudged, fieldJudged};
 
@@ -238,7 +238,7 @@ fn wrong_row(bytes: &[u8], start: usize, size: usize) -> bool
 
 // The rules of a row's numbers and gaps.
 fn row_gap_number(bytes: &[u8], tally: Tally, row: Row) -> u8
-    requires { ⌜ row .gaps + 2 * below (row .followers) 64 ≤ length (now bytes) ⌝ }
+    requires { ⌜ row .gaps + gapSize * followerCount (row .followers) ≤ length (now bytes) ⌝ }
     ensures { λ r. ⌜ r ≡ firstBroken (rowGapRules (now (bytes .entry)) tally row) ⌝ }
 {
     let gaps = sets::size(row.followers);
@@ -249,7 +249,7 @@ fn row_gap_number(bytes: &[u8], tally: Tally, row: Row) -> u8
 
 // Whether one of `count` gaps from a place on is shorter than a bound.
 fn gap_shorter(bytes: &[u8], place: usize, count: usize, bound: Ticks) -> bool
-    requires { ⌜ place + 2 * count ≤ length (now bytes) ⌝ }
+    requires { ⌜ place + gapSize * count ≤ length (now bytes) ⌝ }
     ensures { λ r. ⌜ r ≡ gapShorter (now (bytes .entry)) place count bound ⌝ }
 {
     let mut passed: usize = 0;
@@ -291,7 +291,7 @@ fn mode_at(bytes: &[u8], start: usize) -> Mode
 }
 
 fn row_at(bytes: &[u8], start: usize) -> Row
-    requires { ⌜ start + 8 ≤ length (now bytes) ⌝ }
+    requires { ⌜ start + headSize ≤ length (now bytes) ⌝ }
     ensures { λ r. ⌜ r ≡ rowAt (now (bytes .entry)) start ⌝ }
 {
     let speed = Rpm(word_at(bytes, start));
@@ -335,7 +335,7 @@ fn with_label(sheet: Sheet, start: usize, size: usize) -> Sheet
 }
 
 fn with_mode(sheet: Sheet, mode: Mode) -> Sheet
-    requires { ⌜ sheet .tally .modes < 8 ⌝ }
+    requires { ⌜ sheet .tally .modes < modeLimit ⌝ }
     ensures { λ r. ⌜ r ≡ withMode sheet mode ⌝ }
 {
     let mut next = sheet;
@@ -351,7 +351,7 @@ fn with_mode(sheet: Sheet, mode: Mode) -> Sheet
 }
 
 fn with_row(sheet: Sheet, row: Row) -> Sheet
-    requires { ⌜ sheet .tally .rows < 32 ⌝ }
+    requires { ⌜ sheet .tally .rows < rowLimit ⌝ }
     ensures { λ r. ⌜ r ≡ withRow sheet row ⌝ }
 {
     let mut next = sheet;
@@ -367,7 +367,7 @@ fn with_row(sheet: Sheet, row: Row) -> Sheet
 }
 
 fn with_task(sheet: Sheet, task: Task) -> Sheet
-    requires { ⌜ sheet .tally .tasks < 16 ⌝ }
+    requires { ⌜ sheet .tally .tasks < taskLimit ⌝ }
     ensures { λ r. ⌜ r ≡ withTask sheet task ⌝ }
 {
     let mut next = sheet;

@@ -3,6 +3,7 @@ use Prim.Native.Nat.{_-_, _<_}
 use Rattle.cells.proofs.Amounts.{length-some, next-time}
 use Rattle.cells.proofs.Lines.{Upto, upto-start, upto-done, upto-filled, upto-line, upto-inside, upto-next, upto-turn}
 use Rattle.cells.proofs.amount.fill_by_amount.Statement.{statement}
+use Rattle.sheet.specs.Limits.{rowLimit}
 use Rattle.sheet.specs.Meaning.{graphOf}
 use Rattle.walks.specs.Cells.{ByAmount}
 use borrow.Author.Needs.{needs}
@@ -27,7 +28,7 @@ loop-holds : tie.Need-loop-holds Inv-loop μ-loop
 loop-holds c = upto-start _ _ _ _ (c .before .before .before .before .pre .0 .proper .rows-some)
 
 -- the row of the turn
-row : (c : tie.In-loop Inv-loop μ-loop) → (c .before .loop .k < c .before .before .before .before .before .before .args .t2 .tally .rows) × (c .before .loop .k < 32)
+row : (c : tie.In-loop Inv-loop μ-loop) → (c .before .loop .k < c .before .before .before .before .before .before .args .t2 .tally .rows) × (c .before .loop .k < rowLimit)
 row c =
     let s = c .before .before .before .before .before .before in
     (c .before .loop .inv .row, omega (arith, c .before .loop .inv .row, s .pre .0 .proper .rows-most))

@@ -13,13 +13,13 @@ returns : tie.Need-returns
 returns c = rw (lt-ltb (c .before .before .args .t) (c .before .before .args .fixed) (c .if1 .taken))
 
 add-shortest-of : tie.Need-add-shortest-of
-add-shortest-of c = omega (arith, c .before .before .pre .0)
+add-shortest-of c = omega (arith, c .before .before .pre .1)
 
 shortest-of-requires : tie.Need-shortest-of-requires
 shortest-of-requires c κs =
     let s = c .before .before in
     let fewer : s .args .n * (s .args .t - s .args .fixed + 1) ≤ s .args .n * (s .args .t + 1) = mul-le-mul (omega arith) (omega arith) in
-    (omega arith, omega (arith, s .pre .1))
+    (omega arith, omega (arith, s .pre .0))
 
 cast-result : tie.Need-cast-result
 cast-result c = search needs

@@ -2,6 +2,7 @@
 use Prim.Native.Nat.{_-_, _*_, _≤_, _<_}
 use Rattle.cells.proofs.Releases.{Advancing, advancing-start, advancing-now, advancing-later}
 use Rattle.cells.proofs.tasks.advance.Statement.{statement}
+use Rattle.sheet.specs.Limits.{taskLimit}
 use Rattle.walks.specs.Demand.{longestTime}
 use borrow.Author.Needs.{needs}
 use lib.ListN.{length}
@@ -20,7 +21,7 @@ loop-holds : tie.Need-loop-holds Inv-loop μ-loop
 loop-holds c = (omega arith, omega arith, advancing-start _ _ _ _)
 
 -- the task of the turn is in the arrays
-few : (c : tie.In-loop Inv-loop μ-loop) → c .before .loop .i < 16
+few : (c : tie.In-loop Inv-loop μ-loop) → c .before .loop .i < taskLimit
 few c = omega (arith, c .before .before .pre .1 .0)
 
 mul-if1 : tie.Need-mul-if1 Inv-loop μ-loop
@@ -70,7 +71,6 @@ loop-again c =
     let i = c .before .before in
     let l = i .before .loop in
     let s = i .before .before in
-    let a = s .args in
     let inside : l .i < length (l .dues) = omega (arith, few i, l .inv .2 .done .same-length, s .pre .0) in
     ⊎-elim
     (λ w. (

@@ -5,7 +5,6 @@ use Rattle.sheet.specs.Meaning.{timesOf}
 use Rattle.walks.proofs.FixedTasks.{fixed-before, fixed-from}
 use Rattle.walks.specs.Demand.{longestTime}
 use borrow.Author.Needs.{needs}
-use lib.ListN.{length}
 use mathlib.Core.Path.{sym}
 use native.Mathlib.Nat.{div-le-self, mul-le-mul}
 use native.Mathlib.Omega.{arith}
@@ -24,17 +23,17 @@ div-jobs : tie.Need-div-jobs
 div-jobs c = search needs
 
 -- no more jobs than ticks, and one
-few : (length period first t : ℕ) → t ≤ longestTime → 1 + (t - first) / period ≤ longestTime + 1
-few length period first t h = omega (arith, div-le-self (t - first) period)
+few : (period first t : ℕ) → t ≤ longestTime → 1 + (t - first) / period ≤ longestTime + 1
+few period first t h = omega (arith, div-le-self (t - first) period)
 
 -- so the product is small
-small : (length period first t : ℕ) → length ≤ longestTime → t ≤ longestTime → length * (1 + (t - first) / period) ≤ longestTime * (longestTime + 1)
-small length period first t l h = mul-le-mul {n₁ = length} {m₁ = 1 + (t - first) / period} {n₂ = longestTime} {m₂ = longestTime + 1} l (few length period first t h)
+small : (work period first t : ℕ) → work ≤ longestTime → t ≤ longestTime → work * (1 + (t - first) / period) ≤ longestTime * (longestTime + 1)
+small work period first t l h = mul-le-mul {n₁ = work} {m₁ = 1 + (t - first) / period} {n₂ = longestTime} {m₂ = longestTime + 1} l (few period first t h)
 
 add-jobs : tie.Need-add-jobs
 add-jobs c =
     let s = c .before .before .before in
-    omega (arith, few (s .args .task .length .0) (s .args .task .period .0) (s .args .task .deadline .0) (s .args .t) (s .pre .1))
+    omega (arith, few (s .args .task .period .0) (s .args .task .deadline .0) (s .args .t) (s .pre .1))
 
 cast-result : tie.Need-cast-result
 cast-result c = search needs

@@ -1,7 +1,8 @@
 -- `fixed_sum` meets its contract. The sum so far is that of the tasks passed.
 use Prim.Native.Nat.{ℕ, _+_, _-_, _*_, _≤_, _<_}
-use Rattle.cells.proofs.Releases.{sum-more, sum-all}
+use Rattle.cells.proofs.SheetTasks.{sum-more, sum-all}
 use Rattle.cells.proofs.tasks.fixed_sum.Statement.{statement}
+use Rattle.sheet.specs.Limits.{taskLimit}
 use Rattle.sheet.specs.Meaning.{tasksOf}
 use Rattle.walks.specs.Demand.{longestTime}
 use Rattle.walks.specs.Fixed.{fixedSum}
@@ -22,7 +23,7 @@ unfolding fixedSum
 loop-holds c = (omega arith, refl, omega arith)
 
 -- the task of the turn is in the array
-few : (c : tie.In-loop Inv-loop μ-loop) → c .before .loop .i < 16
+few : (c : tie.In-loop Inv-loop μ-loop) → c .before .loop .i < taskLimit
 few c = omega (arith, c .before .before .before .pre .0 .1 .tasks-most)
 
 mul-task : tie.Need-mul-task Inv-loop μ-loop

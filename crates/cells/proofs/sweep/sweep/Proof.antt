@@ -1,10 +1,10 @@
--- `sweep_by_interval` meets its contract. Fixed demand runs along with the intervals, and none of those passed is overrun.
+-- `sweep` meets its contract. Fixed demand runs along with the intervals, and none of those passed is overrun.
 use Prim.Native.Nat.{_+_, _-_, _*_, _^_, _≤_, _<_}
-use Rattle.cells.proofs.Releases.{running-start}
-use Rattle.cells.proofs.Sweeping.{sheet-interval-decides, Sweeping, sweeping-start, running-next, sweeping-on, sweeping-overrun, sweeping-holds}
-use Rattle.cells.proofs.sweep.sweep_by_interval.Statement.{statement}
-use Rattle.cells.specs.Releases.{Running}
-use Rattle.cells.specs.Sweeping.{overAt}
+use Rattle.cells.proofs.Releases.{Running}
+use Rattle.cells.proofs.SheetTasks.{running-start}
+use Rattle.cells.proofs.Sweeping.{sheet-decides, Sweeping, sweeping-start, running-next, sweeping-on, sweeping-overrun, sweeping-holds}
+use Rattle.cells.proofs.sweep.sweep.Statement.{statement}
+use Rattle.cells.specs.Sweeping.{overrunAt}
 use Rattle.sheet.proofs.ProperTasks.{tasks-count, tasks-fit}
 use Rattle.sheet.specs.Meaning.{tasksOf}
 use borrow.Author.Needs.{needs}
@@ -12,13 +12,13 @@ use lib.ListN.{length}
 use mathlib.Core.Path.{_≡_, sym, _∙_}
 use native.Mathlib.Nat.{mul-le-mul}
 use native.Mathlib.Omega.{arith}
-use Rattle.cells.proofs.sweep.sweep_by_interval.Tie as tie
+use Rattle.cells.proofs.sweep.sweep.Tie as tie
 
 abbrev Inv-loop : tie.InvT-loop
-Inv-loop cells horizon tally lengths periods dues₀ fixed₀ t₀ dues fixed t = Sweeping (overAt (tally .rows) cells) (tally .tasks) horizon lengths periods dues₀ dues fixed t
+Inv-loop table cells horizon tally lengths periods dues₀ fixed₀ t₀ dues fixed t = Sweeping (overrunAt table (tally .rows) cells) (tally .tasks) horizon lengths periods dues₀ dues fixed t
 
 abbrev μ-loop : tie.MeasureT-loop
-μ-loop cells horizon tally lengths periods dues₀ fixed₀ t₀ dues fixed t = horizon - t
+μ-loop table cells horizon tally lengths periods dues₀ fixed₀ t₀ dues fixed t = horizon - t
 
 times-of-requires : tie.Need-times-of-requires Inv-loop μ-loop
 times-of-requires c κs = search needs
@@ -36,7 +36,7 @@ loop-holds : tie.Need-loop-holds Inv-loop μ-loop
 loop-holds c = sweeping-start _ _ _ _ _ _ (c .before .before .before .times-of .ensures .room)
 
 add-t : tie.Need-add-t Inv-loop μ-loop
-add-t c = omega (arith, (c .before .before .before .before .before .before .before .before) .pre .1 .0)
+add-t c = omega (arith, c .before .before .before .before .before .before .before .before .pre .1 .0)
 
 advance-requires : tie.Need-advance-requires Inv-loop μ-loop
 advance-requires c κs =
@@ -49,30 +49,29 @@ small : (c : tie.After-advance Inv-loop μ-loop) → c .before .before .before .
 small c =
     let i = c .before .before .before .before in
     let s = i .before .before .before .before .before .before .before .before in
-    let sheet = s .args .sheet in
     omega (
       arith,
-      running-next _ _ _ _ _ _ _ _ _ (i .before .loop .inv) _ _ (c .advance .ensures) (tasksOf sheet) (count s) (begun (i .before .before)) .sum-is,
-      tasks-fit (s .pre .0 .0) sheet (s .pre .0 .1) (i .before .loop .t + 1) (omega (arith, s .pre .1 .0, i .loop-test .taken)),
+      running-next _ _ _ _ _ _ _ _ _ (i .before .loop .inv) _ _ (c .advance .ensures) (tasksOf (s .args .sheet)) (count s) (begun (i .before .before)) .sum-is,
+      tasks-fit (s .pre .0 .0) (s .args .sheet) (s .pre .0 .1) (i .before .loop .t + 1) (omega (arith, s .pre .1 .0, i .loop-test .taken)),
     )
 
 add-fixed : tie.Need-add-fixed Inv-loop μ-loop
 add-fixed c = omega (arith, small c)
 
-over-at-requires : tie.Need-over-at-requires Inv-loop μ-loop
-over-at-requires c κs =
+overrun-at-requires : tie.Need-overrun-at-requires Inv-loop μ-loop
+overrun-at-requires c κs =
     let i = c .before .before .before .before in
     let s = i .before .before .before .before .before .before .before .before in
     let fewer : s .args .sheet .tally .rows * (i .before .loop .t + 1 + 1) ≤ s .args .sheet .tally .rows * (s .args .horizon + 1) =
     mul-le-mul (omega arith) (omega (arith, i .loop-test .taken)) in
-    (omega (arith, s .pre .1 .1), small c)
+    (omega (arith, s .pre .1 .1), (omega (arith, s .pre .1 .0, i .loop-test .taken), small c))
 
 returns : tie.Need-returns Inv-loop μ-loop
 returns c =
     let i = c .before .before .before .before .before .before in
     let s = i .before .before .before .before .before .before .before .before in
     λ bytes ready lines. sweeping-overrun _ _ _ _ _ _ _ _ _ (i .before .loop .inv) _ _ (c .before .before .advance .ensures) (i .loop-test .taken)
-    (sym (c .before .over-at .ensures) ∙ c .if1 .taken) _ _ (count s) (begun (i .before .before)) (sheet-interval-decides bytes _ ready _ _ lines)
+    (sym (c .before .overrun-at .ensures) ∙ c .if1 .taken) _ _ (count s) (begun (i .before .before)) (sheet-decides (s .args .table) bytes _ ready _ _ (s .pre .1 .0) lines)
 
 loop-less : tie.Need-loop-less Inv-loop μ-loop
 loop-less c = omega (arith, c .before .before .before .before .before .before .loop-test .taken)
@@ -81,15 +80,16 @@ loop-again : tie.Need-loop-again Inv-loop μ-loop
 loop-again c =
     let i = c .before .before .before .before .before .before in
     sweeping-on _ _ _ _ _ _ _ _ _ (i .before .loop .inv) _ _ (c .before .before .advance .ensures) (i .loop-test .taken)
-    (sym (c .before .over-at .ensures) ∙ c .if1 .left)
+    (sym (c .before .overrun-at .ensures) ∙ c .if1 .left)
 
 returns-2 : tie.Need-returns-2 Inv-loop μ-loop
 returns-2 c =
     let s = c .before .before .before .before .before .before .before .before in
-    λ bytes ready lines. sweeping-holds _ _ _ _ _ _ _ _ _ (c .before .loop .inv) (c .loop-test .left) _ _ (count s) (begun (c .before .before)) (sheet-interval-decides bytes _ ready _ _ lines)
+    λ bytes ready lines. sweeping-holds _ _ _ _ _ _ _ _ _ (c .before .loop .inv) (c .loop-test .left) _ _ (count s) (begun (c .before .before))
+    (sheet-decides (s .args .table) bytes _ ready _ _ (s .pre .1 .0) lines)
 
-pub sweep-by-interval-spec : {M : Type 1} → statement M
-sweep-by-interval-spec =
+pub sweep-spec : {M : Type 1} → statement M
+sweep-spec =
     tie.close
     (tie.spec
     Inv-loop
@@ -99,7 +99,7 @@ sweep-by-interval-spec =
     add-t
     advance-requires
     add-fixed
-    over-at-requires
+    overrun-at-requires
     returns
     loop-less
     loop-again

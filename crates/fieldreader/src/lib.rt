@@ -1,0 +1,63 @@
+// The field reader: it holds the caller's bytes and its place in them, and gives one field or one refusal a step.
+use sheet::reader::Step;
+use sheet::reader::field_at;
+ghost use mathlib.Core.Path.{_≡_};
+ghost use Rattle.sheet.specs.Reading.{fieldAt};
+ghost use Rattle.fieldreader.specs.Moving.{afterField};
+
+pub struct Reader<'a> {
+    pub bytes: &'a [u8],
+    pub at: usize,
+}
+
+impl<'a> Reader<'a> {
+    // A reader at the start of the bytes.
+    pub fn new(bytes: &'a [u8]) -> Reader<'a>
+        ensures { λ r. ⌜ (r .bytes ≡ bytes .entry) × (r .at ≡ 0) ⌝ }
+    {
+        Reader { bytes, at: 0 }
+    }
+
+    // The field or the refusal at its place.
+    pub fn step(self) -> Step
+        ensures { λ s. ⌜ s ≡ fieldAt (now (self .entry .bytes)) (self .entry .at) ⌝ }
+    {
+        field_at(self.bytes, self.at)
+    }
+
+    // The reader at the next field; where there is none, at the same place.
+    pub fn advance(self) -> Reader<'a>
+        ensures { λ r. ⌜ (r .bytes ≡ self .entry .bytes) × (r .at ≡ afterField (self .entry .at) (fieldAt (now (self .entry .bytes)) (self .entry .at))) ⌝ }
+    {
+        let next = after_at(self.bytes, self.at);
+        Reader {
+            bytes: self.bytes,
+            at: next,
+        }
+    }
+}
+
+// The place of the next field after the one at a place; that place itself where no field stands.
+pub fn after_at(bytes: &[u8], at: usize) -> usize
+    ensures { λ r. ⌜ r ≡ afterField at (fieldAt (now (bytes .entry)) at) ⌝ }
+{
+    match field_at(bytes, at) {
+        Step::Field {
+            kind: _,
+            start: _,
+            size: _,
+            next,
+        } => next,
+        Step::Refusal {
+            number: _,
+            place: _,
+        } => at,
+    }
+}
+
+// The first step over the bytes, for callers who want no reader.
+pub fn first_step(bytes: &[u8]) -> Step
+    ensures { λ r. ⌜ r ≡ fieldAt (now (bytes .entry)) 0 ⌝ }
+{
+    Reader::new(bytes).step()
+}

@@ -1,0 +1,19 @@
+// Runs the cases on standard input and the bad files that it makes itself, and says how many answers were compared and how many were wrong.
+mod bulk;
+mod calls;
+mod cases;
+mod compare;
+mod memory;
+mod outcome;
+mod report;
+mod text;
+
+use libc::STDIN_FILENO;
+
+fn main() {
+    let mut text = [0u8; 400000];
+    let size = io::read_full(STDIN_FILENO, &mut text);
+    let told = cases::run(&text[..size]);
+    let made = bulk::run();
+    report::print_score(b"in all", told.and(made));
+}
