@@ -38,14 +38,18 @@ find_tools() {
     [ -x "$emulator" ] || emulator=
 }
 
-# A C compiler for x86-64, and its disassembler. On another processor they are Debian's, and what is linked is static, as the emulator wants it.
+# A C compiler for x86-64, and its disassembler; Debian's are installed where there are none. On another processor they are the
+# cross compiler's, and what is linked is static, as the emulator wants it.
 find_compiler() {
+    local packages=(gcc libc6-dev)
     compiler=(cc)
     objdump=objdump
     if [ -n "$emulator" ]; then
+        packages=(gcc-x86-64-linux-gnu)
         compiler=(x86_64-linux-gnu-gcc -static)
         objdump=x86_64-linux-gnu-objdump
-        command -v "${compiler[0]}" >/dev/null || { apt-get update -qq && apt-get install -y -qq gcc-x86-64-linux-gnu; } >/dev/null || true
     fi
-    command -v "${compiler[0]}" >/dev/null || stop "there is no ${compiler[0]}, the C compiler for x86-64"
+    if command -v "${compiler[0]}" >/dev/null; then return; fi
+    say "installing ${packages[*]} for ${compiler[0]}, the C compiler for x86-64"
+    apt-get update -qq >/dev/null && apt-get install -y -qq "${packages[@]}" >/dev/null || stop "there is no ${compiler[0]}, and it could not be installed"
 }

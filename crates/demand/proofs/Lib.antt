@@ -1,1 +1,2 @@
 pub mod Horizons
+pub mod Printing
