@@ -1,0 +1,68 @@
+// A small sheet as plain numbers, before it is a file: up to three rows, each with a mode of its own, so that lengths are free.
+
+// Rows from 0: how long a job is, its deadline, and at 3 times the row plus the follower the gap, 0 where that row may not follow.
+pub struct Plan {
+    pub rows: usize,
+    pub tasks: usize,
+    pub lengths: [u32; 3],
+    pub deadlines: [u32; 3],
+    pub gaps: [u32; 9],
+}
+
+// The fixed tasks that a plan takes none, the first or both of. The second one's deadline is longer than its period.
+pub const FIRST_LENGTH: u32 = 1;
+
+pub const FIRST_PERIOD: u32 = 5;
+
+pub const FIRST_DEADLINE: u32 = 4;
+
+pub const SECOND_LENGTH: u32 = 2;
+
+pub const SECOND_PERIOD: u32 = 4;
+
+pub const SECOND_DEADLINE: u32 = 6;
+
+impl Plan {
+    pub fn length(self, row: usize) -> u32 {
+        if row < 3 { self.lengths[row] } else { 0 }
+    }
+
+    pub fn deadline(self, row: usize) -> u32 {
+        if row < 3 { self.deadlines[row] } else { 0 }
+    }
+
+    pub fn gap(self, row: usize, follower: usize) -> u32 {
+        if row < 3 {
+            if follower < 3 {
+                return self.gaps[3 * row + follower];
+            }
+        }
+        0
+    }
+}
+
+// The sum of two numbers, or the largest number where that is more.
+pub fn sum(first: u32, second: u32) -> u32 {
+    if second <= 4294967295 - first {
+        first + second
+    } else {
+        4294967295
+    }
+}
+
+// Where a table of so many rows a line has its cell for a row on a line; lines are few.
+pub fn cell_of(rows: usize, line: usize, row: usize) -> usize {
+    if 1000 < line {
+        return 4000;
+    }
+    if 1000 < row {
+        return 4000;
+    }
+    if rows == 1 {
+        return line + row;
+    }
+    if rows == 2 {
+        return 2 * line + row;
+    }
+    3 * line + row
+}
