@@ -19,7 +19,7 @@ static void *lent(size_t size)
     return memory;
 }
 
-/* The bytes of a file; a sheet may have any number of them, this program reads a megabyte at most. */
+/* The bytes of a file. A sheet may have any number of them; this program reads less than a megabyte. */
 static uint8_t *read_sheet(const char *name, size_t *size)
 {
     const size_t most = 1 << 20;
@@ -31,6 +31,10 @@ static uint8_t *read_sheet(const char *name, size_t *size)
     uint8_t *bytes = lent(most);
     *size = fread(bytes, 1, most, file);
     fclose(file);
+    if (*size == most) {
+        fprintf(stderr, "ask: %s is longer than this program reads\n", name);
+        exit(2);
+    }
     return bytes;
 }
 
