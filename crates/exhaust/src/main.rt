@@ -1,29 +1,24 @@
 // Holds every answer of the library on a family of small sheets to what all their sequences show, found without the library's tables.
 mod compare;
-mod family;
-mod memory;
-mod plan;
 mod report;
-mod sequences;
-mod writing;
 
 use compare::LENT;
 use compare::Outcome;
 use compare::by_amount;
 use compare::by_interval;
-use family::PLANS;
-use family::plan_of;
+use smallsheets::family::PLANS;
+use smallsheets::family::plan_of;
 use libc::STDOUT_FILENO;
-use memory::first_bytes;
-use plan::Plan;
+use smallsheets::memory::first_bytes;
+use smallsheets::plan::Plan;
 use report::print_counts;
 use report::print_difference;
-use sequences::HORIZON;
-use sequences::LARGEST;
-use sequences::NEVER;
-use sequences::ROOM;
-use sequences::search;
-use writing::write_sheet;
+use smallsheets::sequences::HORIZON;
+use smallsheets::sequences::LARGEST;
+use smallsheets::sequences::NEVER;
+use smallsheets::sequences::ROOM;
+use smallsheets::sequences::search;
+use smallsheets::writing::write_sheet;
 
 // Room for a file: three rows and two fixed tasks take 97 bytes.
 const SIZE: usize = 128;

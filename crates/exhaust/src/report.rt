@@ -1,10 +1,10 @@
 // What the program says: how much was compared, or the first sheet on which something differs.
 use crate::compare::LENT;
 use crate::compare::Outcome;
-use crate::memory::byte;
-use crate::sequences::HORIZON;
-use crate::sequences::LARGEST;
-use crate::sequences::ROOM;
+use smallsheets::memory::byte;
+use smallsheets::sequences::HORIZON;
+use smallsheets::sequences::LARGEST;
+use smallsheets::sequences::ROOM;
 use libc::STDOUT_FILENO;
 
 fn print_count(count: u64, what: &[u8]) {

@@ -1,10 +1,10 @@
 -- `enter_least` is safe and ends: the line grows to the largest amount.
 use Prim.Native.Nat.{_-_, _≤_}
-use Rattle.exhaust.proofs.sequences.enter_least.Statement.{statement}
+use Rattle.smallsheets.proofs.sequences.enter_least.Statement.{statement}
 use borrow.Author.Needs.{needs}
 use lib.ListN.{length}
 use mathlib.Core.Path.{_≡_}
-use Rattle.exhaust.proofs.sequences.enter_least.Tie as tie
+use Rattle.smallsheets.proofs.sequences.enter_least.Tie as tie
 
 abbrev Inv-loop : tie.InvT-loop
 Inv-loop rows least₀ shortest₀ first end amount lines line₀ least shortest line = (line ≤ lines) × (length least ≡ length least₀) × (length shortest ≡ length shortest₀)

@@ -1,10 +1,10 @@
 -- `enter_best` is safe and ends: the interval grows to the horizon.
 use Prim.Native.Nat.{_-_}
-use Rattle.exhaust.proofs.sequences.enter_best.Statement.{statement}
+use Rattle.smallsheets.proofs.sequences.enter_best.Statement.{statement}
 use borrow.Author.Needs.{needs}
 use lib.ListN.{length}
 use mathlib.Core.Path.{_≡_}
-use Rattle.exhaust.proofs.sequences.enter_best.Tie as tie
+use Rattle.smallsheets.proofs.sequences.enter_best.Tie as tie
 
 abbrev Inv-loop : tie.InvT-loop
 Inv-loop rows best₀ first end amount interval₀ best interval = length best ≡ length best₀

@@ -1,10 +1,10 @@
 -- `search` is safe and ends: the turns are counted.
 use Prim.Native.Nat.{_-_, _≤_}
-use Rattle.exhaust.proofs.sequences.search.Statement.{statement}
+use Rattle.smallsheets.proofs.sequences.search.Statement.{statement}
 use borrow.Author.Needs.{needs}
 use lib.ListN.{length}
 use mathlib.Core.Path.{_≡_}
-use Rattle.exhaust.proofs.sequences.search.Tie as tie
+use Rattle.smallsheets.proofs.sequences.search.Tie as tie
 
 abbrev Inv-loop : tie.InvT-loop
 Inv-loop plan best₀ least₀ demand₀ shortest₀ witnesses₀ rows₀ count₀ next₀ found₀ turns₀ best least demand shortest witnesses rows count next found turns = (turns ≤ 100000000) × (length rows ≡ 16) × (found ≤ turns) × (length best ≡ length best₀) × (length least ≡ length least₀) × (length demand ≡ length demand₀) × (length shortest ≡ length shortest₀) × (length witnesses ≡ length witnesses₀)

@@ -1,10 +1,10 @@
 -- `enter_demand` is safe and ends: the interval grows to the horizon.
 use Prim.Native.Nat.{_-_}
-use Rattle.exhaust.proofs.sequences.enter_demand.Statement.{statement}
+use Rattle.smallsheets.proofs.sequences.enter_demand.Statement.{statement}
 use borrow.Author.Needs.{needs}
 use lib.ListN.{length}
 use mathlib.Core.Path.{_≡_}
-use Rattle.exhaust.proofs.sequences.enter_demand.Tie as tie
+use Rattle.smallsheets.proofs.sequences.enter_demand.Tie as tie
 
 abbrev Inv-loop : tie.InvT-loop
 Inv-loop demand₀ witnesses₀ rows count end amount interval₀ demand witnesses interval = (length demand ≡ length demand₀) × (length witnesses ≡ length witnesses₀)

@@ -1,10 +1,10 @@
 -- `enter_witness` is safe and ends: the place grows to the end of the sequence.
 use Prim.Native.Nat.{_-_, _≤_}
-use Rattle.exhaust.proofs.sequences.enter_witness.Statement.{statement}
+use Rattle.smallsheets.proofs.sequences.enter_witness.Statement.{statement}
 use borrow.Author.Needs.{needs}
 use lib.ListN.{length}
 use mathlib.Core.Path.{_≡_}
-use Rattle.exhaust.proofs.sequences.enter_witness.Tie as tie
+use Rattle.smallsheets.proofs.sequences.enter_witness.Tie as tie
 
 abbrev Inv-loop : tie.InvT-loop
 Inv-loop witnesses₀ interval rows count to₀ at₀ witnesses to at = (at ≤ count) × (length witnesses ≡ length witnesses₀)

@@ -1,8 +1,8 @@
 -- `amount_of` is safe and ends: the place grows to the end of the sequence.
 use Prim.Native.Nat.{_-_, _≤_}
-use Rattle.exhaust.proofs.sequences.amount_of.Statement.{statement}
+use Rattle.smallsheets.proofs.sequences.amount_of.Statement.{statement}
 use borrow.Author.Needs.{needs}
-use Rattle.exhaust.proofs.sequences.amount_of.Tie as tie
+use Rattle.smallsheets.proofs.sequences.amount_of.Tie as tie
 
 abbrev Inv-loop : tie.InvT-loop
 Inv-loop plan rows count amount₀ at₀ amount at = at ≤ count

@@ -1,10 +1,10 @@
 -- `put_rows` is safe and ends: the row grows to the number of rows.
 use Prim.Native.Nat.{_-_, _≤_}
-use Rattle.exhaust.proofs.writing.put_rows.Statement.{statement}
+use Rattle.smallsheets.proofs.writing.put_rows.Statement.{statement}
 use borrow.Author.Needs.{needs}
 use lib.ListN.{length}
 use mathlib.Core.Path.{_≡_}
-use Rattle.exhaust.proofs.writing.put_rows.Tie as tie
+use Rattle.smallsheets.proofs.writing.put_rows.Tie as tie
 
 abbrev Inv-loop : tie.InvT-loop
 Inv-loop bytes₀ at plan next₀ row₀ bytes next row = (row ≤ plan .rows) × (length bytes ≡ length bytes₀)
