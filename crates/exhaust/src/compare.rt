@@ -26,9 +26,10 @@ ghost use Prim.Native.Nat.{_^_, _<_};
 // How many cells are lent to each call: some more than three rows need.
 pub const LENT: usize = 40;
 
-// Whether a call's answer is another than it must be, and which call at which interval, horizon or amount.
+// How a sheet came out: all the same, or its sequences not all met, or the first call that differs, at an interval or a horizon or for an amount.
 pub enum Outcome {
     Same,
+    Unsearched,
     Demand(usize),
     Margin(usize),
     VerdictByInterval(usize),

@@ -13,7 +13,6 @@ use compare::by_amount;
 use compare::by_interval;
 use family::PLANS;
 use family::plan_of;
-use libc::STDOUT_FILENO;
 use memory::first_bytes;
 use plan::Plan;
 use report::print_counts;
@@ -49,6 +48,12 @@ fn look(bytes: &[u8], plan: Plan) -> Looked {
         &mut shortest,
         &mut witnesses,
     );
+    if sequences == 0 {
+        return Looked {
+            outcome: Outcome::Unsearched,
+            sequences: 0,
+        };
+    }
     let rows = plan.rows;
     let tasks = plan.tasks;
     let outcome = by_interval(bytes, rows, tasks, &best, &demand, &witnesses);
@@ -87,7 +92,6 @@ fn main() {
     while number < PLANS {
         let found = compared(number);
         if found == 0 {
-            io::write_all(STDOUT_FILENO, b"stopped\n");
             return;
         }
         sequences = std::num::wrapping_add_u64(sequences, found);
