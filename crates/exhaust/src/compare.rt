@@ -1,4 +1,8 @@
 // What the library answers, held to what the sequences show: each answer, each lent cell and each lent byte.
+use desk::DemandAnswer;
+use desk::MarginAnswer;
+use desk::ShortestAnswer;
+use desk::VerdictAnswer;
 use smallsheets::memory::byte;
 use smallsheets::memory::bytes_hold;
 use smallsheets::memory::cell;
@@ -17,18 +21,15 @@ use smallsheets::sequences::HORIZON;
 use smallsheets::sequences::LARGEST;
 use smallsheets::sequences::NEVER;
 use smallsheets::sequences::ROOM;
-use desk::DemandAnswer;
-use desk::MarginAnswer;
-use desk::ShortestAnswer;
-use desk::VerdictAnswer;
 ghost use Prim.Native.Nat.{_^_, _<_};
 
 // How many cells are lent to each call: some more than three rows need.
 pub const LENT: usize = 40;
 
-// Whether a call's answer is another than it must be, and which call at which interval, horizon or amount.
+// How a sheet came out: all the same, or its sequences not all met, or the first call that differs, at an interval or a horizon or for an amount.
 pub enum Outcome {
     Same,
+    Unsearched,
     Demand(usize),
     Margin(usize),
     VerdictByInterval(usize),

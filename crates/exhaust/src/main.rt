@@ -6,13 +6,12 @@ use compare::LENT;
 use compare::Outcome;
 use compare::by_amount;
 use compare::by_interval;
-use smallsheets::family::PLANS;
-use smallsheets::family::plan_of;
-use libc::STDOUT_FILENO;
-use smallsheets::memory::first_bytes;
-use smallsheets::plan::Plan;
 use report::print_counts;
 use report::print_difference;
+use smallsheets::family::PLANS;
+use smallsheets::family::plan_of;
+use smallsheets::memory::first_bytes;
+use smallsheets::plan::Plan;
 use smallsheets::sequences::HORIZON;
 use smallsheets::sequences::LARGEST;
 use smallsheets::sequences::NEVER;
@@ -44,6 +43,12 @@ fn look(bytes: &[u8], plan: Plan) -> Looked {
         &mut shortest,
         &mut witnesses,
     );
+    if sequences == 0 {
+        return Looked {
+            outcome: Outcome::Unsearched,
+            sequences: 0,
+        };
+    }
     let rows = plan.rows;
     let tasks = plan.tasks;
     let outcome = by_interval(bytes, rows, tasks, &best, &demand, &witnesses);
@@ -82,7 +87,6 @@ fn main() {
     while number < PLANS {
         let found = compared(number);
         if found == 0 {
-            io::write_all(STDOUT_FILENO, b"stopped\n");
             return;
         }
         sequences = std::num::wrapping_add_u64(sequences, found);

@@ -1,11 +1,11 @@
 // What the program says: how much was compared, or the first sheet on which something differs.
 use crate::compare::LENT;
 use crate::compare::Outcome;
+use libc::STDOUT_FILENO;
 use smallsheets::memory::byte;
 use smallsheets::sequences::HORIZON;
 use smallsheets::sequences::LARGEST;
 use smallsheets::sequences::ROOM;
-use libc::STDOUT_FILENO;
 
 fn print_count(count: u64, what: &[u8]) {
     io::print_decimal(STDOUT_FILENO, count);
@@ -45,14 +45,23 @@ fn print_bytes(bytes: &[u8]) {
 }
 
 pub fn print_difference(bytes: &[u8], outcome: Outcome) {
-    io::write_all(STDOUT_FILENO, b"difference on ");
+    io::write_all(STDOUT_FILENO, b"sheet ");
     print_bytes(bytes);
     match outcome {
         Outcome::Same => {}
-        Outcome::Demand(interval) => print_where(b"in demand at ", interval),
-        Outcome::Margin(interval) => print_where(b"in margin at ", interval),
-        Outcome::VerdictByInterval(horizon) => print_where(b"in verdict by interval to ", horizon),
-        Outcome::Shortest(amount) => print_where(b"in shortest for ", amount),
-        Outcome::VerdictByAmount(horizon) => print_where(b"in verdict by amount to ", horizon),
+        Outcome::Unsearched => {
+            io::write_all(STDOUT_FILENO, b"has sequences that were not met\n");
+        }
+        Outcome::Demand(interval) => print_where(b"differs in demand at ", interval),
+        Outcome::Margin(interval) => print_where(b"differs in margin at ", interval),
+        Outcome::VerdictByInterval(horizon) => print_where(
+            b"differs in verdict by interval to ",
+            horizon,
+        ),
+        Outcome::Shortest(amount) => print_where(b"differs in shortest for ", amount),
+        Outcome::VerdictByAmount(horizon) => print_where(
+            b"differs in verdict by amount to ",
+            horizon,
+        ),
     }
 }

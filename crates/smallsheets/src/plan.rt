@@ -18,9 +18,9 @@ pub const FIRST_DEADLINE: u32 = 4;
 
 pub const SECOND_LENGTH: u32 = 2;
 
-pub const SECOND_PERIOD: u32 = 4;
+pub const SECOND_PERIOD: u32 = 3;
 
-pub const SECOND_DEADLINE: u32 = 6;
+pub const SECOND_DEADLINE: u32 = 5;
 
 impl Plan {
     pub fn length(self, row: usize) -> u32 {

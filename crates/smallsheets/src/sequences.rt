@@ -9,11 +9,11 @@ use crate::plan::sum;
 ghost use Prim.Native.Nat.{_<_};
 
 // Intervals go from 0 to the horizon, amounts from 1 to the largest.
-pub const HORIZON: usize = 10;
+pub const HORIZON: usize = 9;
 
-pub const LARGEST: usize = 10;
+pub const LARGEST: usize = 9;
 
-// Room for one sequence. Gaps, deadlines and lengths are at least 1, so that none that is looked at has more than 10 rows.
+// Room for one sequence. Gaps, deadlines and lengths are at least 1, so that none that is looked at has more than 9 rows.
 pub const ROOM: usize = 16;
 
 // No sequence reaches the amount.

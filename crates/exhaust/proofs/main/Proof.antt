@@ -5,22 +5,16 @@ use borrow.Author.Needs.{needs}
 use Rattle.exhaust.proofs.main.Tie as tie
 
 abbrev Inv-loop : tie.InvT-loop
-Inv-loop sequences₀ number₀ t4 sequences number = number ≤ 138312
+Inv-loop sequences₀ number₀ sequences number = number ≤ 138312
 
 abbrev μ-loop : tie.MeasureT-loop
-μ-loop sequences₀ number₀ t4 sequences number = 138312 - number
+μ-loop sequences₀ number₀ sequences number = 138312 - number
 
 loop-holds : tie.Need-loop-holds Inv-loop μ-loop
 loop-holds c = search needs
 
 compared-requires : tie.Need-compared-requires Inv-loop μ-loop
 compared-requires c κs = search needs
-
-slice-aggregate-write-all : tie.Need-slice-aggregate-write-all Inv-loop μ-loop
-slice-aggregate-write-all c = search needs
-
-write-all-requires : tie.Need-write-all-requires Inv-loop μ-loop
-write-all-requires c κs = search needs
 
 returns : tie.Need-returns Inv-loop μ-loop
 returns c = search needs
@@ -54,8 +48,6 @@ main-spec =
     μ-loop
     loop-holds
     compared-requires
-    slice-aggregate-write-all
-    write-all-requires
     returns
     wrapping-add-u64-requires
     add-number

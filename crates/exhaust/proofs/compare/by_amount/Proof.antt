@@ -5,10 +5,10 @@ use borrow.Author.Needs.{needs}
 use Rattle.exhaust.proofs.compare.by_amount.Tie as tie
 
 abbrev Inv-loop : tie.InvT-loop
-Inv-loop bytes rows tasks least shortest demand line₀ line = line ≤ 10
+Inv-loop bytes rows tasks least shortest demand line₀ line = line ≤ 9
 
 abbrev μ-loop : tie.MeasureT-loop
-μ-loop bytes rows tasks least shortest demand line₀ line = 10 - line
+μ-loop bytes rows tasks least shortest demand line₀ line = 9 - line
 
 loop-holds : tie.Need-loop-holds Inv-loop μ-loop
 loop-holds c = search needs

@@ -5,10 +5,10 @@ use borrow.Author.Needs.{needs}
 use Rattle.exhaust.proofs.compare.by_interval.Tie as tie
 
 abbrev Inv-loop : tie.InvT-loop
-Inv-loop bytes rows tasks best demand witnesses interval₀ interval = interval ≤ 11
+Inv-loop bytes rows tasks best demand witnesses interval₀ interval = interval ≤ 10
 
 abbrev μ-loop : tie.MeasureT-loop
-μ-loop bytes rows tasks best demand witnesses interval₀ interval = 11 - interval
+μ-loop bytes rows tasks best demand witnesses interval₀ interval = 10 - interval
 
 loop-holds : tie.Need-loop-holds Inv-loop μ-loop
 loop-holds c = search needs

@@ -10,7 +10,7 @@ abbrev Inv-loop : tie.InvT-loop
 Inv-loop rows best₀ first end amount interval₀ best interval = length best ≡ length best₀
 
 abbrev μ-loop : tie.MeasureT-loop
-μ-loop rows best₀ first end amount interval₀ best interval = 11 - interval
+μ-loop rows best₀ first end amount interval₀ best interval = 10 - interval
 
 loop-holds : tie.Need-loop-holds Inv-loop μ-loop
 loop-holds c = search needs

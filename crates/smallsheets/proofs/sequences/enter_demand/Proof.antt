@@ -10,7 +10,7 @@ abbrev Inv-loop : tie.InvT-loop
 Inv-loop demand₀ witnesses₀ rows count end amount interval₀ demand witnesses interval = (length demand ≡ length demand₀) × (length witnesses ≡ length witnesses₀)
 
 abbrev μ-loop : tie.MeasureT-loop
-μ-loop demand₀ witnesses₀ rows count end amount interval₀ demand witnesses interval = 11 - interval
+μ-loop demand₀ witnesses₀ rows count end amount interval₀ demand witnesses interval = 10 - interval
 
 loop-holds : tie.Need-loop-holds Inv-loop μ-loop
 loop-holds c = search needs
