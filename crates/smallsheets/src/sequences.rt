@@ -235,20 +235,11 @@ pub fn search(
                 count = before;
                 next = row;
             }
-            Turn::Sequence { count: longer } => {
-                count = longer;
+            Turn::Sequence { count: more } => {
+                count = more;
                 next = 0;
                 found += 1;
-                enter(
-                    plan,
-                    &rows,
-                    longer,
-                    best,
-                    least,
-                    demand,
-                    shortest,
-                    witnesses,
-                );
+                enter(plan, &rows, more, best, least, demand, shortest, witnesses);
             }
         }
     }

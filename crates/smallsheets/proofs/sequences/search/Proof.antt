@@ -54,8 +54,8 @@ loop-less c = search needs
 loop-again : tie.Need-loop-again Inv-loop μ-loop
 loop-again c = search needs
 
-enum-known-longer : tie.Need-enum-known-longer Inv-loop μ-loop
-enum-known-longer c = search needs
+enum-known-more : tie.Need-enum-known-more Inv-loop μ-loop
+enum-known-more c = search needs
 
 add-found : tie.Need-add-found Inv-loop μ-loop
 add-found c = search needs
@@ -110,7 +110,7 @@ search-spec =
     enum-known-before
     loop-less
     loop-again
-    enum-known-longer
+    enum-known-more
     add-found
     slice-aggregate-enter
     enter-requires
