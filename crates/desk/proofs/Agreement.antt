@@ -28,7 +28,7 @@ either-case : (test : Bool) (T E C : Type 0) → (T → C) → (E → C) → Eit
 either-case true T E C yes-case no-case p = yes-case p
 either-case false T E C yes-case no-case p = no-case p
 
-found-not-refused : (amount count number place : ℕ) → demand-case.Found amount count ≡ demand-case.Refused number place → ⊥
+pub found-not-refused : (amount count number place : ℕ) → demand-case.Found amount count ≡ demand-case.Refused number place → ⊥
 found-not-refused amount count number place e = let z : _≡_ {A = ℕ} 0 1 = cc in omega arith
 
 time-not-refused : (time number place : ℕ) → shortest-case.Found time ≡ shortest-case.Refused number place → ⊥

@@ -1,5 +1,6 @@
 pub mod Beginnings
 pub mod Determined
 pub mod Agreement
+pub mod Room
 pub mod Telling
 pub mod Calling
