@@ -3,6 +3,7 @@ use crate::compare::LENT;
 use crate::compare::Outcome;
 use libc::STDOUT_FILENO;
 use smallsheets::memory::byte;
+use smallsheets::plan::MOST;
 use smallsheets::sequences::HORIZON;
 use smallsheets::sequences::LARGEST;
 use smallsheets::sequences::ROOM;
@@ -14,7 +15,7 @@ fn print_count(count: u64, what: &[u8]) {
 
 // Each interval takes three calls and each amount two; each call has all lent cells compared, and demand the lent bytes too.
 pub fn print_counts(sheets: u64, sequences: u64) {
-    if 4294967295 < sheets {
+    if (MOST as u64) < sheets {
         return;
     }
     let intervals = sheets * (HORIZON as u64 + 1);

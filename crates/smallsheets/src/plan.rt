@@ -41,12 +41,15 @@ impl Plan {
     }
 }
 
+// The largest number, more than any time or amount of a small sheet.
+pub const MOST: u32 = 4294967295;
+
 // The sum of two numbers, or the largest number where that is more.
 pub fn sum(first: u32, second: u32) -> u32 {
-    if second <= 4294967295 - first {
+    if second <= MOST - first {
         first + second
     } else {
-        4294967295
+        MOST
     }
 }
 

@@ -3,6 +3,7 @@ use crate::memory::byte;
 use crate::memory::lower_cell;
 use crate::memory::raise_cell;
 use crate::memory::set_byte;
+use crate::plan::MOST;
 use crate::plan::Plan;
 use crate::plan::cell_of;
 use crate::plan::sum;
@@ -17,7 +18,7 @@ pub const LARGEST: usize = 9;
 pub const ROOM: usize = 16;
 
 // No sequence reaches the amount.
-pub const NEVER: u32 = 4294967295;
+pub const NEVER: u32 = MOST;
 
 // More turns than any plan takes.
 const TURNS: u64 = 100000000;

@@ -2,6 +2,7 @@
 use Prim.Native.Nat.{_+_, _-_, _/_, _≤_}
 use borrow.Author.Needs.{needs}
 use native.Mathlib.Omega.{arith}
+use Rattle.walks.specs.Demand.{longestTime}
 use Rattle.demand.proofs.Horizons.{lines-fit, fit-lines}
 use Rattle.demand.proofs.steps.horizon_of.Statement.{statement}
 use Rattle.demand.proofs.steps.horizon_of.Tie as tie
@@ -22,7 +23,7 @@ returns c =
     let b = c .before in
     record {
       in-range = omega arith;
-      fits = lines-fit (b .args .cells) (b .args .rows) (65535 + 1) (b .pre .0) (c .if1 .taken);
+      fits = lines-fit (b .args .cells) (b .args .rows) (longestTime + 1) (b .pre .0) (c .if1 .taken);
       largest = λ other range room. range;
     }
 
