@@ -7,13 +7,12 @@ use mathlib.Core.Bool.{Bool, true, false}
 use mathlib.Core.List.{List, _++_}
 use lib.Dec.{ltb, eqb}
 use lib.ListN.{length, drop}
-use borrow.Author.Tests.{ltb-false, le-ltb, eq-eqb, ne-eqb, eqb-true, eqb-false}
+use borrow.Author.Tests.{ltb-false, le-ltb, eq-eqb, ne-eqb, eqb-true}
 use Rattle.walks.specs.Demand.{longestTime, noTime, IsDemand, IsShortest}
 use Rattle.walks.proofs.Agreement.{agree, agree-none}
 use Rattle.walks.proofs.Verdicts.{verdict-unique}
 use Rattle.sheet.specs.Deciding.{pick, _or_}
 use Rattle.sheet.specs.Judging.{judged}
-use Rattle.sheet.proofs.Deciding.{neither}
 use Rattle.sheet.specs.declared.Answer.{Answer}
 use Rattle.sheet.specs.declared.Answer.the-variants as sheet-case
 use Rattle.desk.specs.Calls.{Begins, Either, badAmount, graph, tasks, rows, lines, FilledByInterval, FilledByAmount, DemandRefuses, DemandGives, DemandAnswers, DemandCall, ShortestRefuses, ShortestGives, ShortestAnswers, ShortestCall, VerdictRefuses, VerdictAnswers, VerdictCall, VerdictByIntervalCall, VerdictByAmountCall, verdictAnswer}
@@ -21,7 +20,7 @@ use Rattle.desk.specs.declared.DemandAnswer.the-variants as demand-case
 use Rattle.desk.specs.declared.ShortestAnswer as shortest
 use Rattle.desk.specs.declared.ShortestAnswer.the-variants as shortest-case
 use Rattle.desk.specs.declared.VerdictAnswer as verdict
-use Rattle.desk.proofs.Beginnings.{begins-alike, came-to-answer, comes-to-answer}
+use Rattle.desk.proofs.Beginnings.{begins-alike, came-to-answer, comes-to-answer, amount-some}
 
 -- one of two promises, taken apart
 either-case : (test : Bool) (T E C : Type 0) → (T → C) → (E → C) → Either test T E → C
@@ -91,8 +90,7 @@ module _ (bytes : List ℕ) (b : ℕ) (cells : List ℕ) (time : ℕ) (cells′ 
           (λ (p : shortest-case.Found time ≡ shortest-case.Refused 14 0). absurd (time-not-refused time 14 0 p))
           (λ (p : shortest-case.Found time ≡ shortest-case.Found least).
           let same : least ≡ time = cc in
-          let some : b ≡ 0 → ⊥ = eqb-false b 0 (neither (eqb b 0) (ltb (longestTime + 1) b) (came .2) .0) in
-          (subst (IsShortest (graph bytes) b) same is, omega arith))
+          (subst (IsShortest (graph bytes) b) same is, amount-some b (came .2)))
           gives
 
 -- the shortest interval for b is at most t exactly when the demand at t is at least b

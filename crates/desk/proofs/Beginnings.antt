@@ -1,16 +1,19 @@
 -- How a call begins: which of the refusals 1 to 12 stands first, or that it comes to its answer.
-use Prim.Native.Nat.{ℕ, _≤_, _<_}
+use Prim.Native.Nat.{ℕ, _+_, _≤_, _<_}
 use native.Mathlib.Omega.{arith}
 use mathlib.Core.Path.{_≡_, refl, sym, ap, _∙_, subst}
 use mathlib.Core.Bool.{Bool, true, false, true≢false}
 use mathlib.Core.List.{List}
-use lib.Dec.{ltb}
-use borrow.Author.Tests.{lt-ltb, le-ltb}
+use lib.Dec.{ltb, eqb}
+use borrow.Author.Tests.{lt-ltb, le-ltb, eq-eqb, ne-eqb, eqb-true, eqb-false}
+use Rattle.walks.specs.Demand.{longestTime}
+use Rattle.sheet.specs.Deciding.{pick, _or_}
+use Rattle.sheet.proofs.Deciding.{yes, no, neither}
 use Rattle.sheet.specs.Judging.{judged}
 use Rattle.sheet.specs.declared.Answer.{Answer}
 use Rattle.sheet.specs.declared.Answer.the-variants as sheet-case
 use Rattle.sheet.specs.declared.Judged.{Judged}
-use Rattle.desk.specs.Calls.{Begins, lines}
+use Rattle.desk.specs.Calls.{Begins, badAmount, lines}
 use Rattle.desk.specs.Beginning.{Begun}
 
 -- a call whose sheet is accepted, whose number is in range and which has room comes to its answer
@@ -43,6 +46,24 @@ comes-to-answer answer o f R A accepted range room b =
     subst (λ (x : Answer). Begins x false false R A) accepted
     (subst (λ (x : Bool). Begins answer x false R A) range
     (subst (λ (x : Bool). Begins answer o x R A) room b))
+
+module _ (amount : ℕ) where
+  -- an amount beyond the longest time and one takes no line
+  pub amount-beyond : longestTime + 1 < amount → 0 ≡ pick (badAmount amount) 0 amount
+  amount-beyond more = yes _ _ _ _ (sym (no _ _ _ _ (ne-eqb amount 0 (λ (z : amount ≡ 0). omega arith)) (sym (lt-ltb _ _ more)))) refl
+
+  -- any other takes as many as it says, which is none for 0
+  pub amount-within : amount ≤ longestTime + 1 → amount ≡ pick (badAmount amount) 0 amount
+  unfolding pick
+  amount-within few = go (eqb amount 0) refl
+    where
+      go : (none : Bool) → eqb amount 0 ≡ none → amount ≡ pick (badAmount amount) 0 amount
+      go true e = rw e (eqb-true amount 0 e)
+      go false e = rw (e, le-ltb (longestTime + 1) amount few) refl
+
+  -- one that is in range takes at least one
+  pub amount-some : badAmount amount ≡ false → 1 ≤ amount
+  amount-some good = let some : amount ≡ 0 → ⊥ = eqb-false amount 0 (neither (eqb amount 0) (ltb (longestTime + 1) amount) good .0) in omega arith
 
 accepted-not-refused : (number place : ℕ) → sheet-case.Accepted ≡ sheet-case.Refused number place → ⊥
 accepted-not-refused number place e = let z : _≡_ {A = ℕ} 0 1 = cc in omega arith
@@ -85,6 +106,21 @@ module _ (bytes : List ℕ) (outOfRange : Bool) (count room : ℕ) (begun : Judg
       go (sheet-case.Refused n p) o e q = q
       go sheet-case.Accepted true e q = q
       go sheet-case.Accepted false e q = absurd (true≢false (sym e))
+
+  -- a call that counts no lines where the number is out of range, and else as many as it takes
+  pub begun-in-lines : (counted : ℕ) → counted ≡ pick outOfRange 0 count → (outOfRange ≡ false → 1 ≤ count)
+      → Begun bytes (eqb counted 0) counted room begun → Begun bytes outOfRange count room begun
+  unfolding pick
+  begun-in-lines counted e some b = go outOfRange refl
+    where
+      go : (o : Bool) → outOfRange ≡ o → Begun bytes outOfRange count room begun
+      go true o =
+          let none : counted ≡ 0 = e ∙ ap (λ (x : Bool). pick x 0 count) o in
+          room-aside counted o (subst (λ (x : Bool). Begun bytes x counted room begun) (eq-eqb counted 0 none) b)
+      go false o =
+          let all : counted ≡ count = e ∙ ap (λ (x : Bool). pick x 0 count) o in
+          let more : eqb counted 0 ≡ false = ne-eqb counted 0 (λ (z : counted ≡ 0). omega (arith, some o)) in
+          subst (λ (x : Bool). Begun bytes x count room begun) (more ∙ sym o) (subst (λ (n : ℕ). Begun bytes (eqb counted 0) n room begun) all b)
 
   -- a call that begins with a refusal gives it
   pub begun-refused : Begun bytes outOfRange count room begun → (number place : ℕ) → begun .answer ≡ sheet-case.Refused number place

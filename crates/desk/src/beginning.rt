@@ -5,8 +5,9 @@ use sheet::judge;
 use sheet::values::Sheet;
 ghost use mathlib.Core.Path.{_≡_};
 ghost use Prim.Native.Nat.{_+_, _≤_};
-ghost use lib.Dec.{ltb};
+ghost use lib.Dec.{ltb, eqb};
 ghost use Rattle.walks.specs.Demand.{longestTime};
+ghost use Rattle.sheet.specs.Deciding.{pick};
 ghost use Rattle.sheet.specs.declared.Answer.the-variants.{Refused};
 ghost use Rattle.desk.specs.Calls.{badAmount};
 ghost use Rattle.desk.specs.Beginning.{Begun};
@@ -15,29 +16,42 @@ ghost use Rattle.desk.specs.Beginning.{Begun};
 pub(crate) fn begin_interval(bytes: &[u8], interval: u64, room: usize) -> Judged
     ensures { λ r. ⌜ Begun (now (bytes .entry)) (ltb longestTime interval) (interval + 1) room r ⌝ }
 {
-    if (Sheet::TICKS as u64) < interval {
-        return begin(bytes, true, 0, room);
-    }
-    begin(bytes, false, interval as usize + 1, room)
+    begin(bytes, interval_lines(interval), room)
 }
 
 // A call with an amount, which takes a line of cells for each amount from 1 on.
 pub(crate) fn begin_amount(bytes: &[u8], amount: u64, room: usize) -> Judged
     ensures { λ r. ⌜ Begun (now (bytes .entry)) (badAmount amount) amount room r ⌝ }
 {
-    if amount == 0 {
-        return begin(bytes, true, 0, room);
-    }
-    if (Sheet::TICKS as u64) + 1 < amount {
-        return begin(bytes, true, 0, room);
-    }
-    begin(bytes, false, amount as usize, room)
+    begin(bytes, amount_lines(amount), room)
 }
 
-// The sheet where the call may go on, else the first of the refusals 1 to 12.
-fn begin(bytes: &[u8], beyond: bool, lines: usize, room: usize) -> Judged
+// How many lines an interval takes, none where it is out of range.
+fn interval_lines(interval: u64) -> usize
+    ensures { λ r. ⌜ r ≡ pick (ltb longestTime interval) 0 (interval + 1) ⌝ }
+    ensures { λ r. ⌜ r ≤ longestTime + 1 ⌝ }
+{
+    if (Sheet::TICKS as u64) < interval {
+        return 0;
+    }
+    interval as usize + 1
+}
+
+// How many lines an amount takes, none where it is out of range.
+fn amount_lines(amount: u64) -> usize
+    ensures { λ r. ⌜ r ≡ pick (badAmount amount) 0 amount ⌝ }
+    ensures { λ r. ⌜ r ≤ longestTime + 1 ⌝ }
+{
+    if (Sheet::TICKS as u64) + 1 < amount {
+        return 0;
+    }
+    amount as usize
+}
+
+// The sheet where the call may go on, else the first of the refusals 1 to 12. No lines say that the number asked for is out of range.
+fn begin(bytes: &[u8], lines: usize, room: usize) -> Judged
     requires { ⌜ lines ≤ longestTime + 1 ⌝ }
-    ensures { λ r. ⌜ Begun (now (bytes .entry)) beyond lines room r ⌝ }
+    ensures { λ r. ⌜ Begun (now (bytes .entry)) (eqb lines 0) lines room r ⌝ }
 {
     let judged = judge(bytes);
     let answer = judged.answer;
@@ -49,7 +63,7 @@ fn begin(bytes: &[u8], beyond: bool, lines: usize, room: usize) -> Judged
             place: _,
         } => judged,
         Answer::Accepted => {
-            if beyond {
+            if lines == 0 {
                 return refused(11);
             }
             if room < tally.rows * lines {

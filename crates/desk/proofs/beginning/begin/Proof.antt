@@ -9,6 +9,7 @@ use Rattle.sheet.specs.Judging.{judged}
 use Rattle.sheet.specs.declared.Answer.the-variants.{Accepted}
 use Rattle.sheet.specs.declared.Judged.{Judged}
 use borrow.Author.Needs.{needs}
+use borrow.Author.Tests.{eq-eqb, ne-eqb}
 use denote.Ref.{now}
 use mathlib.Core.Path.{_≡_, _∙_, sym, ap, subst}
 use native.Mathlib.Nat.{mul-le-mul}
@@ -38,7 +39,7 @@ rows-few c =
     subst (λ (j : Judged). j .sheet .tally .rows ≤ 32) (sym (c .before .before .before .before .judge .ensures)) (proper .rows-most)
 
 returns : tie.Need-returns
-returns c = begin-beyond _ _ _ _ _ (accepted (c .before .before)) (c .before .if1 .taken) (c .refused .ensures)
+returns c = begin-beyond _ _ _ _ _ (accepted (c .before .before)) (eq-eqb _ _ (c .before .if1 .taken)) (c .refused .ensures)
 
 mul-if2 : tie.Need-mul-if2
 mul-if2 c =
@@ -50,7 +51,7 @@ refused-requires-2 c κs = search needs
 
 returns-2 : tie.Need-returns-2
 returns-2 c =
-    begin-short _ _ _ _ _ (accepted (c .before .before .before .before)) (c .before .before .before .if1 .left)
+    begin-short _ _ _ _ _ (accepted (c .before .before .before .before)) (ne-eqb _ _ (c .before .before .before .if1 .left))
     (subst (λ (j : Judged). c .before .before .before .before .before .before .before .before .before .before .args .room < j .sheet .tally .rows * c .before .before .before .before .before .before .before .before .before .before .args .lines) (c .before .before .before .before .before .before .before .before .judge .ensures) (c .before .if2 .taken))
     (c .refused2 .ensures)
 
@@ -61,7 +62,7 @@ returns-3 c =
 
 returns-4 : tie.Need-returns-4
 returns-4 c =
-    begin-goes-on _ _ _ _ _ (accepted (c .before .before .before)) (c .before .before .if1 .left)
+    begin-goes-on _ _ _ _ _ (accepted (c .before .before .before)) (ne-eqb _ _ (c .before .before .if1 .left))
     (subst (λ (j : Judged). j .sheet .tally .rows * c .before .before .before .before .before .before .before .before .before .args .lines ≤ c .before .before .before .before .before .before .before .before .before .args .room) (c .before .before .before .before .before .before .before .judge .ensures) (c .if2 .left))
     (c .before .before .before .before .before .before .before .judge .ensures)
 
