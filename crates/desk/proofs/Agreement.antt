@@ -13,9 +13,8 @@ use Rattle.walks.proofs.Agreement.{agree, agree-none}
 use Rattle.walks.proofs.Verdicts.{verdict-unique}
 use Rattle.sheet.specs.Deciding.{pick, _or_}
 use Rattle.sheet.specs.Judging.{judged}
-use Rattle.sheet.specs.declared.Answer.{Answer}
 use Rattle.sheet.specs.declared.Answer.the-variants as sheet-case
-use Rattle.desk.specs.Calls.{Begins, Either, badAmount, graph, tasks, rows, lines, FilledByInterval, FilledByAmount, DemandRefuses, DemandGives, DemandAnswers, DemandCall, ShortestRefuses, ShortestGives, ShortestAnswers, ShortestCall, VerdictRefuses, VerdictAnswers, VerdictCall, VerdictByIntervalCall, VerdictByAmountCall, verdictAnswer}
+use Rattle.desk.specs.Calls.{Begins, Either, badAmount, graph, tasks, lines, FilledByInterval, FilledByAmount, DemandRefuses, DemandAnswers, DemandCall, ShortestRefuses, ShortestGives, ShortestAnswers, ShortestCall, VerdictRefuses, VerdictAnswers, VerdictCall, VerdictByIntervalCall, VerdictByAmountCall, verdictAnswer}
 use Rattle.desk.specs.declared.DemandAnswer.the-variants as demand-case
 use Rattle.desk.specs.declared.ShortestAnswer as shortest
 use Rattle.desk.specs.declared.ShortestAnswer.the-variants as shortest-case

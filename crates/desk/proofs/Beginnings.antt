@@ -7,7 +7,7 @@ use mathlib.Core.List.{List}
 use lib.Dec.{ltb, eqb}
 use borrow.Author.Tests.{lt-ltb, le-ltb, eq-eqb, ne-eqb, eqb-true, eqb-false}
 use Rattle.walks.specs.Demand.{longestTime}
-use Rattle.sheet.specs.Deciding.{pick, _or_}
+use Rattle.sheet.specs.Deciding.{pick}
 use Rattle.sheet.proofs.Deciding.{yes, no, neither}
 use Rattle.sheet.specs.Judging.{judged}
 use Rattle.sheet.specs.declared.Answer.{Answer}

@@ -1,25 +1,22 @@
 -- Each call's promise determines its answer, every lent cell and every byte of the witness area: two that are allowed are equal.
-use Prim.Native.Nat.{ℕ, _+_, _*_, _≤_, _<_}
+use Prim.Native.Nat.{ℕ, _+_, _*_}
 use native.Mathlib.Nat.{eq-zero-or-pos, zero-mul}
-use mathlib.Core.Path.{_≡_, refl, sym, ap, ap₂, _∙_, subst}
+use mathlib.Core.Path.{_≡_, sym, ap, _∙_, subst}
 use mathlib.Core.Logic.{⊎-elim}
 use mathlib.Core.Bool.{Bool, true, false}
 use mathlib.Core.List.{List, _++_}
 use lib.Dec.{ltb, eqb}
-use lib.ListN.{length, drop, getD}
+use lib.ListN.{length, drop}
 use lib.Seq.{ext-getD}
 use native.Mathlib.Omega.{arith}
 use Rattle.walks.specs.Demand.{longestTime, noTime}
 use Rattle.walks.specs.Cells.{ByInterval, ByAmount, Filled}
-use Rattle.walks.specs.Verdict.{Verdict}
 use Rattle.walks.proofs.Unique.{demand-unique, shortest-unique, best-unique, least-unique, witness-unique}
 use Rattle.walks.proofs.Margins.{margin-unique}
 use Rattle.walks.proofs.Verdicts.{verdict-unique}
 use Rattle.walks.proofs.Filling.{filled-unique}
 use Rattle.sheet.specs.Judging.{judged}
-use Rattle.sheet.specs.declared.Answer.{Answer}
-use Rattle.sheet.specs.declared.Answer.the-variants as sheet-case
-use Rattle.desk.specs.Calls.{Begins, Either, badAmount, graph, tasks, rows, lines, FilledByInterval, FilledByAmount, DemandRefuses, DemandGives, DemandAnswers, DemandCall, MarginRefuses, MarginAnswers, MarginCall, ShortestRefuses, ShortestGives, ShortestAnswers, ShortestCall, VerdictRefuses, VerdictAnswers, VerdictCall, VerdictByIntervalCall, VerdictByAmountCall, verdictAnswer}
+use Rattle.desk.specs.Calls.{Either, badAmount, graph, tasks, rows, lines, FilledByInterval, FilledByAmount, DemandRefuses, DemandGives, DemandAnswers, DemandCall, MarginRefuses, MarginAnswers, MarginCall, ShortestRefuses, ShortestGives, ShortestAnswers, ShortestCall, VerdictRefuses, VerdictAnswers, VerdictCall, VerdictByIntervalCall, VerdictByAmountCall, verdictAnswer}
 use Rattle.desk.specs.declared.DemandAnswer as demand
 use Rattle.desk.specs.declared.DemandAnswer.the-variants as demand-case
 use Rattle.desk.specs.declared.MarginAnswer as margin

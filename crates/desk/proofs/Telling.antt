@@ -1,21 +1,18 @@
 -- What the tables of an accepted sheet tell a call: the numbers read off its cells are those that the call promises.
-use Prim.Native.Nat.{ℕ, _+_, _-_, _*_, _^_, _≤_, _<_}
+use Prim.Native.Nat.{ℕ, _+_, _*_, _^_, _≤_, _<_}
 use native.Mathlib.Omega.{arith}
 use mathlib.Core.Path.{_≡_, refl, sym, ap, ap₂, _∙_, subst}
-use mathlib.Core.Bool.{Bool, true, false}
 use mathlib.Core.List.{List, _++_}
-use lib.Dec.{ltb, eqb}
 use lib.IntN.{ℤ, pos, _-ℤ_}
 use lib.ListN.{length, drop}
 use mir.Syntax.{w64}
 use mir.Val.{toZ, ofZ}
 use mir.Facts.{toZ-pos}
 use borrow.Author.Tests.{lt-ltb, le-ltb, eq-eqb, ne-eqb}
-use Rattle.walks.specs.Graph.{Graph}
-use Rattle.walks.specs.Demand.{longestTime, noTime, IsDemand, IsWitness, IsShortest}
+use Rattle.walks.specs.Demand.{noTime, IsDemand, IsWitness, IsShortest}
 use Rattle.walks.specs.Cells.{ByInterval, ByAmount, Filled}
-use Rattle.walks.specs.Fixed.{Task, fixedSum}
-use Rattle.walks.specs.Verdict.{IsMargin, IsVerdict}
+use Rattle.walks.specs.Fixed.{fixedSum}
+use Rattle.walks.specs.Verdict.{IsVerdict}
 use Rattle.walks.specs.Computed.{cellAt, cellFor, maxBelow, minBelow, witnessOf}
 use Rattle.walks.proofs.Differences.{sub-is64}
 use Rattle.walks.proofs.Existence.{witness-of}
@@ -33,8 +30,7 @@ use Rattle.cells.specs.Sweeping.{IsSwept, verdictOf}
 use Rattle.cells.specs.declared.sweep.Swept.{Swept}
 use Rattle.cells.proofs.Lines.{filled-lines, line-demand}
 use Rattle.cells.proofs.Amounts.{line-shortest}
-use Rattle.desk.specs.Calls.{Either, graph, tasks, lines, FilledByInterval, FilledByAmount, DemandGives, DemandAnswers, MarginAnswers, ShortestGives, ShortestAnswers, VerdictAnswers, verdictAnswer}
-use Rattle.desk.specs.declared.DemandAnswer as demand
+use Rattle.desk.specs.Calls.{graph, tasks, lines, FilledByInterval, FilledByAmount, DemandAnswers, MarginAnswers, ShortestGives, ShortestAnswers, VerdictAnswers, verdictAnswer}
 use Rattle.desk.specs.declared.DemandAnswer.the-variants as demand-case
 use Rattle.desk.specs.declared.MarginAnswer.the-variants as margin-case
 use Rattle.desk.specs.declared.ShortestAnswer as shortest

@@ -1,7 +1,7 @@
 -- The judge: how a field of each kind is judged, and the walk over the fields in file order.
 use Prim.Native.Nat.{ℕ, zero, suc, _+_}
 use mathlib.Core.List.{List, [], _∷_}
-use mathlib.Core.Bool.{Bool, true, false}
+use mathlib.Core.Bool.{true, false}
 use lib.ListN.{length, take, drop}
 use lib.Dec.{ltb}
 use Rattle.sheet.specs.Deciding.{Rule, _when_, pick, judgedBy}

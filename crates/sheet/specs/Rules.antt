@@ -10,7 +10,7 @@ use Rattle.sets.specs.declared.Next.the-variants.{At, Nothing}
 use Rattle.sheet.specs.Deciding.{Rule, _when_, _or_, pick, anyFrom}
 use Rattle.sheet.specs.Fields.{lineOf}
 use Rattle.sheet.specs.Limits.{rpmLimit, headSize, gapSize}
-use Rattle.sheet.specs.Reading.{wordAt, longAt, ticksAt}
+use Rattle.sheet.specs.Reading.{wordAt, longAt}
 use Rattle.sheet.specs.Values.{noRow}
 use Rattle.sheet.specs.declared.units.Rpm.{Rpm}
 use Rattle.sheet.specs.declared.units.Ticks.{Ticks}

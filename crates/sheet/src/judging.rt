@@ -27,7 +27,7 @@ ghost use Prim.Native.Nat.{_+_, _*_, _<_, _≤_};
 ghost use lib.ListN.{length};
 ghost use Rattle.sheet.specs.Deciding.{firstBroken};
 ghost use Rattle.sheet.specs.Limits.{modeLimit, rowLimit, taskLimit, headSize, gapSize};
-ghost use Rattle.sheet.specs.Reading.{rpmAt, ticksAt, modeAt, rowAt, taskAt};
+ghost use Rattle.sheet.specs.Reading.{modeAt, rowAt, taskAt};
 ghost use Rattle.sheet.specs.Rules.{followerCount, badText, gapShorter, wrongRow, unknownFollower, rowGapRules};
 ghost use Rattle.sheet.specs.Values.{withLabel, withMode, withRow, withTask};
 ghost use Rattle.sheet.specs.Judging.{refusal, refusedAt, goesOn, acceptedAs, labelJudged, modeJudged, rowJudged, taskJudged, endJudged, fieldJudged};

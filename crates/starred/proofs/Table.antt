@@ -1,12 +1,12 @@
 -- Every case of the table holds: one test that the checker computes over the whole table, and one law that turns it into what each case says.
-use Prim.Native.Nat.{ℕ, zero, suc, _<_, _≤_}
+use Prim.Native.Nat.{ℕ, zero, suc}
 use native.Mathlib.Omega.{arith}
 use mathlib.Core.Path.{_≡_, refl, sym, ap, _∙_, subst}
 use mathlib.Core.Bool.{Bool, true, false, not, _&&_}
 use mathlib.Core.List.{List, [], _∷_}
 use lib.Dec.{T, ltb, eqb, eqb→eq, ltb→lt}
 use lib.IntN.{ℤ, pos, negsuc}
-use lib.ListN.{length, getD}
+use lib.ListN.{length}
 use borrow.Author.Tests.{le-ltb}
 use Rattle.sets.specs.Sets.{below, nextIn}
 use Rattle.walks.specs.Graph.{Sound}
@@ -29,7 +29,7 @@ use Rattle.sheet.specs.declared.Answer.the-variants.{Accepted, Refused}
 use Rattle.sheet.proofs.Accepted.{accepted-proper}
 use Rattle.sheet.proofs.ProperGraph.{proper-sound}
 use Rattle.desk.specs.Answers.{shortestNumbers}
-use Rattle.desk.specs.Calls.{badAmount, graph, tasks, lines, ShortestGives, ShortestRefuses, ShortestAnswers, ShortestCall}
+use Rattle.desk.specs.Calls.{badAmount, graph, tasks, lines, ShortestRefuses, ShortestAnswers, ShortestCall}
 use Rattle.desk.specs.declared.ShortestAnswer.{ShortestAnswer}
 use Rattle.desk.proofs.Beginnings.{comes-to-answer}
 use Rattle.desk.proofs.Agreement.{told-refused}

@@ -2,7 +2,6 @@
 use Prim.Native.Nat.{_+_}
 use Rattle.desk.proofs.Calling.{GoesOn, goes-on, room-enough, demand-refused, demand-answered}
 use Rattle.desk.proofs.demand.Statement.{statement}
-use Rattle.sheet.specs.Deciding.{_or_}
 use Rattle.walks.specs.Demand.{longestTime}
 use borrow.Author.Needs.{needs}
 use borrow.Author.Tests.{ltb-false}

@@ -2,7 +2,6 @@
 use Rattle.desk.proofs.Calling.{GoesOn, goes-on, room-enough, shortest-refused, shortest-answered, amount-some}
 use Rattle.desk.proofs.shortest.Statement.{statement}
 use Rattle.desk.specs.Calls.{badAmount}
-use Rattle.sheet.specs.Deciding.{_or_}
 use borrow.Author.Needs.{needs}
 use denote.Ref.{now}
 use lib.ListN.{length}

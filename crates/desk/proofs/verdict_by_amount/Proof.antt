@@ -3,7 +3,6 @@ use Prim.Native.Nat.{_+_}
 use Rattle.desk.proofs.Calling.{GoesOn, goes-on, room-enough, verdict-refused, verdict-answered}
 use Rattle.desk.proofs.verdict_by_amount.Statement.{statement}
 use Rattle.desk.specs.Calls.{FilledByAmount}
-use Rattle.sheet.specs.Deciding.{_or_}
 use Rattle.walks.specs.Demand.{longestTime}
 use borrow.Author.Needs.{needs}
 use borrow.Author.Tests.{ltb-false}

@@ -1,5 +1,4 @@
 -- `cells_for` is safe: 32 rows of 65,537 columns fit.
-use Prim.Native.Nat.{_*_}
 use native.Mathlib.Nat.{mul-le-mul}
 use native.Mathlib.Omega.{arith}
 use borrow.Author.Needs.{needs}

@@ -3,13 +3,12 @@ use Prim.Native.Nat.{_+_, _-_, _*_, _≤_}
 use Rattle.cells.proofs.Amounts.{soonest-via-is}
 use Rattle.cells.proofs.Followers.{row-followed}
 use Rattle.cells.proofs.amount.least_cell.Statement.{statement}
-use Rattle.cells.specs.Amounts.{soonestVia}
 use Rattle.sheet.specs.Meaning.{gapOf}
 use Rattle.walks.proofs.ByAmount.{least-one, least-done}
 use Rattle.walks.specs.Computed.{cellFor}
 use borrow.Author.Needs.{needs}
 use denote.Ref.{now}
-use mathlib.Core.Path.{_≡_, ap, _∙_}
+use mathlib.Core.Path.{_≡_}
 use native.Mathlib.Nat.{mul-le-mul}
 use native.Mathlib.Omega.{arith}
 use Rattle.cells.proofs.amount.least_cell.Tie as tie
@@ -37,9 +36,7 @@ returns-2 c =
     let left = a .line + 1 - a .work in
     let same : a .line - a .work ≡ left - 1 = omega arith in
     least-done (a .n) (a .work) (a .row .deadline .0) (gapOf bytes (a .row)) (cellFor (a .n) cells) (a .line + 1) _ (omega (arith, c .before .if1 .left))
-    (c .soonest-via .ensures
-    ∙ ap (soonestVia bytes cells (a .row .followers) (a .row .gaps) (a .n)) same
-    ∙ soonest-via-is bytes (a .n) (a .row) (s .pre .0) (omega arith) cells left)
+    (rw (c .soonest-via .ensures, same) (soonest-via-is bytes (a .n) (a .row) (s .pre .0) (omega arith) cells left))
 
 pub least-cell-spec : {M : Type 1} → statement M
 least-cell-spec = tie.close (tie.spec cast-result returns soonest-via-requires returns-2)

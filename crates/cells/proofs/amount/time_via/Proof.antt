@@ -1,5 +1,5 @@
 -- `time_via` meets its contract: a sum beyond the longest time is no time.
-use Prim.Native.Nat.{_+_, _-_}
+use Prim.Native.Nat.{_+_}
 use Rattle.cells.proofs.amount.time_via.Statement.{statement}
 use Rattle.walks.proofs.ByAmount.{time-kept, time-none}
 use borrow.Author.Needs.{needs}

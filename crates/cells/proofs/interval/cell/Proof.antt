@@ -2,7 +2,7 @@
 use Prim.Native.Nat.{_+_}
 use borrow.Author.Needs.{needs}
 use denote.Ref.{now}
-use mathlib.Core.Path.{_≡_, _∙_}
+use mathlib.Core.Path.{_≡_}
 use native.Mathlib.Omega.{arith}
 use Rattle.walks.proofs.ByInterval.{step-late, step-done}
 use Rattle.cells.specs.Adding.{cellOf}
@@ -26,7 +26,7 @@ sum : (c : tie.After-most-added) →
     a .work + c .most-added .result ≡ cellOf (now (a .bytes)) (now (a .cells)) (a .row) (a .work) (a .n) (a .s)
 sum c =
     let b = c .before .before .before .before .before in
-    step-done _ _ _ _ _ _ _ (c .before .if1 .left) (c .most-added .ensures ∙ most-added-is _ _ _ (b .pre .0) (omega (arith, c .before .before .struct-known .given)) _ _)
+    step-done _ _ _ _ _ _ _ (c .before .if1 .left) (rw (c .most-added .ensures) (most-added-is _ _ _ (b .pre .0) (omega (arith, c .before .before .struct-known .given)) _ _))
 
 add-result : tie.Need-add-result
 add-result c = omega (arith, sum c, c .before .before .before .before .before .pre .1 .1)

@@ -1,9 +1,8 @@
 -- `fill_by_interval` meets its contract. The cells passed are right, and the line and the row are those of the next cell.
-use Prim.Native.Nat.{ℕ, _+_, _-_, _<_}
+use Prim.Native.Nat.{_+_, _-_, _<_}
 use borrow.Author.Needs.{needs}
 use denote.Ref.{now}
 use lib.ListN.{length}
-use mathlib.Core.Path.{sym, subst}
 use native.Mathlib.Omega.{arith}
 use Rattle.walks.specs.Cells.{ByInterval}
 use Rattle.sheet.specs.Limits.{rowLimit}
@@ -39,7 +38,7 @@ right : (c : tie.After-cell Inv-loop μ-loop) →
 right c =
     let l = c .before .before .before .before in
     let b = l .before .before .before .before .before in
-    subst (λ (v : ℕ). ByInterval (graphOf (now (b .args .bytes)) (b .args .t2)) (l .loop .s) (l .loop .k) v) (sym (c .cell .ensures))
+    rw (c .cell .ensures)
     (next-is _ _ (b .pre .0) _ _ _ _ (l .loop .inv .row) (upto-filled _ _ _ _ _ _ _ _ (l .loop .inv)) _ (l .before .before .job-lengths .ensures (l .loop .k) (row-few l)))
 
 job-lengths-requires : tie.Need-job-lengths-requires Inv-loop μ-loop

@@ -69,7 +69,7 @@ loop-again c =
     ap (λ r. r .0) (c .before .before .gap-at .ensures)
     ∙ passing-gap _ _ _ _ _ _ _ (b .fits .followers .fits) (l .inv) (i .loop-test .taken) (now (a .bytes)) in
     passing-next _ _ _ _ _ _ _ (b .fits .followers .fits) (l .inv) (i .loop-test .taken) _
-    (c .larger .ensures ∙ ap (max (l .most)) (c .before .added .ensures ∙ ap (λ (x : ℕ). addedAt (a .n) (now (a .cells)) (a .s) x j) gap))
+    (rw (c .larger .ensures, c .before .added .ensures, gap))
 
 returns : tie.Need-returns Inv-loop μ-loop
 unfolding mostAdded

@@ -1,5 +1,5 @@
 -- `over_at` meets its contract.
-use Prim.Native.Nat.{ℕ, _+_, _-_}
+use Prim.Native.Nat.{ℕ, _+_}
 use Rattle.cells.proofs.sweep.over_at.Statement.{statement}
 use borrow.Author.Needs.{needs}
 use lib.Dec.{ltb}

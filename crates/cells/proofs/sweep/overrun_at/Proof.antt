@@ -1,5 +1,4 @@
 -- `overrun_at` meets its contract: each table has its own test.
-use Prim.Native.Nat.{_-_}
 use Rattle.cells.proofs.sweep.overrun_at.Statement.{statement}
 use Rattle.cells.specs.Sweeping.{overrunAt}
 use Rattle.cells.specs.declared.sweep.Table.{Table}

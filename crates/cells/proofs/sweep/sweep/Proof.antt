@@ -9,7 +9,7 @@ use Rattle.sheet.proofs.ProperTasks.{tasks-count, tasks-fit}
 use Rattle.sheet.specs.Meaning.{tasksOf}
 use borrow.Author.Needs.{needs}
 use lib.ListN.{length}
-use mathlib.Core.Path.{_≡_, sym, _∙_}
+use mathlib.Core.Path.{_≡_}
 use native.Mathlib.Nat.{mul-le-mul}
 use native.Mathlib.Omega.{arith}
 use Rattle.cells.proofs.sweep.sweep.Tie as tie
@@ -71,7 +71,7 @@ returns c =
     let i = c .before .before .before .before .before .before in
     let s = i .before .before .before .before .before .before .before .before in
     λ bytes ready lines. sweeping-overrun _ _ _ _ _ _ _ _ _ (i .before .loop .inv) _ _ (c .before .before .advance .ensures) (i .loop-test .taken)
-    (sym (c .before .overrun-at .ensures) ∙ c .if1 .taken) _ _ (count s) (begun (i .before .before)) (sheet-decides (s .args .table) bytes _ ready _ _ (s .pre .1 .0) lines)
+    (rw (← c .before .overrun-at .ensures) (c .if1 .taken)) _ _ (count s) (begun (i .before .before)) (sheet-decides (s .args .table) bytes _ ready _ _ (s .pre .1 .0) lines)
 
 loop-less : tie.Need-loop-less Inv-loop μ-loop
 loop-less c = omega (arith, c .before .before .before .before .before .before .loop-test .taken)
@@ -80,7 +80,7 @@ loop-again : tie.Need-loop-again Inv-loop μ-loop
 loop-again c =
     let i = c .before .before .before .before .before .before in
     sweeping-on _ _ _ _ _ _ _ _ _ (i .before .loop .inv) _ _ (c .before .before .advance .ensures) (i .loop-test .taken)
-    (sym (c .before .overrun-at .ensures) ∙ c .if1 .left)
+    (rw (← c .before .overrun-at .ensures) (c .if1 .left))
 
 returns-2 : tie.Need-returns-2 Inv-loop μ-loop
 returns-2 c =

@@ -1,9 +1,9 @@
 -- `next_row` meets its contract. No follower passed adds just the work wanted.
-use Prim.Native.Nat.{ℕ, _+_, _-_, _^_, _<_}
+use Prim.Native.Nat.{_+_, _-_, _^_, _<_}
 use borrow.Author.Needs.{needs}
 use denote.Ref.{now}
 use lib.ListN.{length}
-use mathlib.Core.Path.{_≡_, sym, ap, _∙_}
+use mathlib.Core.Path.{_≡_, sym, _∙_}
 use native.Mathlib.Omega.{arith}
 use Rattle.sets.proofs.Search.{First, next-at, next-none-all}
 use Rattle.cells.specs.Adding.{addedAt}
@@ -47,9 +47,7 @@ adds c =
     let l = next .before .before .before in
     let a = l .before .before .before .args in
     let j = next .next .given .0 .0 in
-    c .added .ensures
-    ∙ ap (λ (gap : ℕ). addedAt (a .n) (now (a .cells)) (a .left) gap j)
-    (ap (λ r. r .0) (c .before .gap-at .ensures) ∙ sought-gap _ _ _ _ _ _ _ _ _ (l .loop .inv) _ (next-is next))
+    rw (c .added .ensures, c .before .gap-at .ensures, sought-gap _ _ _ _ _ _ _ _ _ (l .loop .inv) _ (next-is next))
 
 loop-holds : tie.Need-loop-holds Inv-loop μ-loop
 loop-holds c = sought-start _ _ _ _ _ _ _

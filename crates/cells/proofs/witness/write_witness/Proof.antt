@@ -4,7 +4,7 @@ use borrow.Author.Needs.{needs}
 use denote.Ref.{now}
 use lib.ListN.{length, getD, set, length-set}
 use mathlib.Core.List.{List, []}
-use mathlib.Core.Path.{_≡_, _∙_, subst}
+use mathlib.Core.Path.{_≡_, subst}
 use native.Mathlib.Omega.{arith}
 use Rattle.sheet.specs.Limits.{rowLimit}
 use Rattle.sheet.specs.Meaning.{lengthOf, graphOf}
@@ -76,7 +76,7 @@ array-read-own : tie.Need-array-read-own Inv-loop μ-loop
 array-read-own c = omega (arith, row-few c)
 
 same-length : tie.Need-same-length Inv-loop μ-loop
-same-length c = let l = c .before .before in length-set (l .loop .area) (l .loop .count) (l .loop .stand .row) ∙ same l
+same-length c = rw length-set (same (c .before .before))
 
 returns-2 : tie.Need-returns-2 Inv-loop μ-loop
 returns-2 c =

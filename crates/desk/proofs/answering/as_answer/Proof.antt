@@ -3,7 +3,6 @@ use Rattle.cells.specs.Sweeping.{verdictOf}
 use Rattle.cells.specs.declared.sweep.Swept.{Swept}
 use Rattle.desk.proofs.answering.as_answer.Statement.{statement}
 use Rattle.desk.specs.Calls.{verdictAnswer}
-use Rattle.sheet.specs.Deciding.{_or_}
 use borrow.Author.Needs.{needs}
 use mathlib.Core.Path.{sym, ap}
 use Rattle.desk.proofs.answering.as_answer.Tie as tie

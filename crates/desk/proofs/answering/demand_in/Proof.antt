@@ -3,8 +3,6 @@ use Prim.Native.Nat.{ℕ, _+_, _≤_, _<_}
 use Rattle.cells.specs.Lines.{HasLines}
 use Rattle.desk.proofs.Telling.{room-told, lines-told, demand-too-long, demand-written}
 use Rattle.desk.proofs.answering.demand_in.Statement.{statement}
-use Rattle.desk.specs.Calls.{lines}
-use Rattle.sheet.specs.Deciding.{_or_}
 use Rattle.sheet.specs.Meaning.{graphOf}
 use Rattle.walks.specs.Cells.{ByInterval}
 use borrow.Author.Needs.{needs}

@@ -3,9 +3,7 @@ use Prim.Native.Nat.{_^_, ℕ, _+_, _<_}
 use Rattle.cells.specs.Lines.{HasLines}
 use Rattle.desk.proofs.Telling.{room-told, lines-told, margin-told, difference-kept}
 use Rattle.desk.proofs.answering.margin_in.Statement.{statement}
-use Rattle.desk.specs.Calls.{lines}
 use Rattle.sheet.proofs.ProperTasks.{tasks-fit}
-use Rattle.sheet.specs.Deciding.{_or_}
 use Rattle.sheet.specs.Meaning.{graphOf}
 use Rattle.walks.specs.Cells.{ByInterval}
 use borrow.Author.Needs.{needs}

@@ -2,7 +2,6 @@
 use Prim.Native.Nat.{ℕ, _*_, _≤_}
 use Rattle.desk.proofs.Telling.{room-told, shortest-answers, gives-none, gives-time}
 use Rattle.desk.proofs.answering.shortest_in.Statement.{statement}
-use Rattle.sheet.specs.Deciding.{_or_}
 use borrow.Author.Needs.{needs}
 use denote.Ref.{now}
 use mathlib.Core.Path.{sym, subst}

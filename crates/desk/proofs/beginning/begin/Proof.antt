@@ -4,7 +4,6 @@ use Rattle.desk.proofs.Beginnings.{begin-refused, begin-beyond, begin-s
 use Rattle.desk.proofs.beginning.begin.Statement.{statement}
 use Rattle.desk.specs.Calls.{lines}
 use Rattle.sheet.proofs.Accepted.{accepted-proper}
-use Rattle.sheet.specs.Deciding.{_or_}
 use Rattle.sheet.specs.Judging.{judged}
 use Rattle.sheet.specs.declared.Answer.the-variants.{Accepted}
 use Rattle.sheet.specs.declared.Judged.{Judged}

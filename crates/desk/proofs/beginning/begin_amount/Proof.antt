@@ -1,6 +1,5 @@
 -- `begin_amount` meets its contract: an amount in range takes at least one line.
 use borrow.Author.Needs.{needs}
-use Rattle.sheet.specs.Deciding.{_or_}
 use Rattle.desk.proofs.Beginnings.{begun-in-lines, amount-some}
 use Rattle.desk.proofs.beginning.begin_amount.Statement.{statement}
 use Rattle.desk.proofs.beginning.begin_amount.Tie as tie

@@ -1,7 +1,6 @@
 -- `begin_interval` meets its contract: an interval in range takes at least one line.
 use native.Mathlib.Omega.{arith}
 use borrow.Author.Needs.{needs}
-use Rattle.sheet.specs.Deciding.{_or_}
 use Rattle.desk.proofs.Beginnings.{begun-in-lines}
 use Rattle.desk.proofs.beginning.begin_interval.Statement.{statement}
 use Rattle.desk.proofs.beginning.begin_interval.Tie as tie

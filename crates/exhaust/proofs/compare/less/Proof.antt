@@ -1,5 +1,4 @@
 -- `less` is safe: a difference of two 32-bit numbers fits 64 bits with a sign.
-use Prim.Native.Nat.{_-_}
 use Rattle.exhaust.proofs.compare.less.Statement.{statement}
 use Rattle.walks.proofs.Differences.{sub-fits64}
 use borrow.Author.Needs.{needs}

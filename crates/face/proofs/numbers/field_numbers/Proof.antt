@@ -1,6 +1,6 @@
 -- `field_numbers` meets its contract, case by case.
 use borrow.Author.Needs.{needs}
-use mathlib.Core.Path.{ap, sym, _∙_}
+use mathlib.Core.Path.{ap, sym}
 use Rattle.face.specs.Flat.{flatStep}
 use Rattle.face.proofs.numbers.field_numbers.Statement.{statement}
 use Rattle.face.proofs.numbers.field_numbers.Tie as tie

@@ -1,5 +1,4 @@
 -- `kind_of` meets its contract: each arm of the match is one line of the definition.
-use Prim.Native.Nat.{_-_}
 use Rattle.sheet.proofs.Deciding.{judging}
 use Rattle.sheet.proofs.fields.kind_of.Statement.{statement}
 use Rattle.sheet.specs.Deciding.{pick}

@@ -1,5 +1,4 @@
 -- `refused_tag` meets its contract: the kind of the tag decides.
-use Prim.Native.Nat.{_-_}
 use Rattle.sheet.proofs.fields.refused_tag.Statement.{statement}
 use borrow.Author.Needs.{needs}
 use Rattle.sheet.proofs.fields.refused_tag.Tie as tie

@@ -1,5 +1,4 @@
 -- `accepted_as` meets its contract by computation.
-use Prim.Native.Nat.{_-_}
 use Rattle.sheet.proofs.judging.accepted_as.Statement.{statement}
 use Rattle.sheet.specs.Judging.{acceptedAs}
 use mathlib.Core.Path.{refl}

@@ -1,5 +1,4 @@
 -- `goes_on` meets its contract by computation.
-use Prim.Native.Nat.{_-_}
 use Rattle.sheet.proofs.judging.goes_on.Statement.{statement}
 use Rattle.sheet.specs.Judging.{goesOn}
 use mathlib.Core.Path.{refl}

@@ -1,5 +1,4 @@
 -- `judge_end` meets its contract, rule by rule.
-use Prim.Native.Nat.{_-_}
 use Rattle.sheet.proofs.Deciding.{judging}
 use Rattle.sheet.proofs.judging.judge_end.Statement.{statement}
 use Rattle.sheet.specs.Judging.{checked, endJudged}

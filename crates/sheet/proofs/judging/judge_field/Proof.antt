@@ -1,5 +1,4 @@
 -- `judge_field` meets its contract: each arm calls the judge of its kind.
-use Prim.Native.Nat.{_-_}
 use Rattle.sheet.proofs.judging.judge_field.Statement.{statement}
 use Rattle.sheet.specs.Judging.{fieldJudged}
 use borrow.Author.Needs.{needs}

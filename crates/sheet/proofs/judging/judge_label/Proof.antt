@@ -1,5 +1,4 @@
 -- `judge_label` meets its contract: first the rules of every known field, then its text, then the sheet with it.
-use Prim.Native.Nat.{_-_}
 use Rattle.sheet.proofs.Deciding.{kept, broke, pass, stop}
 use Rattle.sheet.proofs.Numbered.{common-numbered}
 use Rattle.sheet.proofs.judging.judge_label.Statement.{statement}

@@ -1,5 +1,4 @@
 -- `refused` meets its contract: its sheet is the empty one.
-use Prim.Native.Nat.{_-_}
 use Rattle.sheet.proofs.judging.refused.Statement.{statement}
 use Rattle.sheet.specs.Judging.{refusal}
 use borrow.Author.Needs.{needs}

@@ -1,5 +1,4 @@
 -- `refused_at` meets its contract: the file is judged.
-use Prim.Native.Nat.{_-_}
 use Rattle.sheet.proofs.judging.refused_at.Statement.{statement}
 use Rattle.sheet.specs.Judging.{refusedAt}
 use borrow.Author.Needs.{needs}

@@ -1,5 +1,4 @@
 -- `row_gap_number` meets its contract: two looks at the gaps answer what the rules ask of them.
-use Prim.Native.Nat.{_-_}
 use Rattle.sheet.proofs.judging.row_gap_number.Statement.{statement}
 use Rattle.sheet.specs.Rules.{rowGapRules}
 use borrow.Author.Needs.{needs}

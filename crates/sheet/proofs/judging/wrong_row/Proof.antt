@@ -1,5 +1,4 @@
 -- `wrong_row` meets its contract: the table's test first, then the set's.
-use Prim.Native.Nat.{_-_}
 use Rattle.sheet.proofs.Deciding.{judging, kept}
 use Rattle.sheet.proofs.judging.wrong_row.Statement.{statement}
 use Rattle.sheet.specs.Rules.{wrongRow}

@@ -1,5 +1,4 @@
 -- `byte_at` meets its contract: past the end the definition has 0 too.
-use Prim.Native.Nat.{_-_}
 use Rattle.sheet.proofs.reader.byte_at.Statement.{statement}
 use borrow.Author.Needs.{needs}
 use denote.Ref.{now}

@@ -1,5 +1,5 @@
 -- `field_at` meets its contract: its three refusals are the rules of the definition in their order.
-use Prim.Native.Nat.{_+_, _-_, _≤_}
+use Prim.Native.Nat.{_+_, _≤_}
 use Rattle.sheet.proofs.Deciding.{judging, told-le, kept}
 use Rattle.sheet.proofs.reader.field_at.Statement.{statement}
 use Rattle.sheet.specs.Reading.{fieldAt}

@@ -1,5 +1,5 @@
 -- `long_at` meets its contract: where the third byte is past the end, the low half is 0.
-use Prim.Native.Nat.{_+_, _-_, _≤_, _<_}
+use Prim.Native.Nat.{_+_, _≤_, _<_}
 use Rattle.sheet.proofs.Deciding.{told-lt, told-le}
 use Rattle.sheet.proofs.reader.long_at.Statement.{statement}
 use borrow.Author.Needs.{needs}

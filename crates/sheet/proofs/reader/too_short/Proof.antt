@@ -1,5 +1,5 @@
 -- `too_short` meets its contract: the sum is compared without being made, so that it cannot wrap.
-use Prim.Native.Nat.{_+_, _-_, _≤_, _<_}
+use Prim.Native.Nat.{_+_, _≤_, _<_}
 use Rattle.sheet.proofs.Deciding.{judging}
 use Rattle.sheet.proofs.reader.too_short.Statement.{statement}
 use native.Mathlib.Omega.{arith}

@@ -1,5 +1,5 @@
 -- `word_at` meets its contract: past the end both bytes are 0.
-use Prim.Native.Nat.{_+_, _-_, _≤_}
+use Prim.Native.Nat.{_+_, _≤_}
 use Rattle.sheet.proofs.reader.word_at.Statement.{statement}
 use borrow.Author.Needs.{needs}
 use denote.Ref.{now}

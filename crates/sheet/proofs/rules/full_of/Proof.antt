@@ -1,5 +1,4 @@
 -- `full_of` meets its contract: it reads the tag's line.
-use Prim.Native.Nat.{_-_}
 use Rattle.sheet.proofs.rules.full_of.Statement.{statement}
 use Rattle.sheet.specs.Rules.{full}
 use borrow.Author.Needs.{needs}

@@ -1,5 +1,4 @@
 -- `unknown_in` meets its contract: the set's next row from the number of rows on decides.
-use Prim.Native.Nat.{_-_}
 use Rattle.sheet.proofs.rules.unknown_in.Statement.{statement}
 use Rattle.sheet.specs.Rules.{unknownIn}
 use borrow.Author.Needs.{needs}

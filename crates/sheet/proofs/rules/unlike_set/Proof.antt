@@ -1,5 +1,4 @@
 -- `unlike_set` meets its contract: the ones of the set are its rows.
-use Prim.Native.Nat.{_-_}
 use Rattle.sheet.proofs.rules.unlike_set.Statement.{statement}
 use Rattle.sheet.specs.Rules.{unlikeSet}
 use borrow.Author.Needs.{needs}

@@ -1,5 +1,4 @@
 -- `wrong_length` meets its contract: it reads the tag's line.
-use Prim.Native.Nat.{_-_}
 use Rattle.sheet.proofs.Deciding.{judging}
 use Rattle.sheet.proofs.rules.wrong_length.Statement.{statement}
 use Rattle.sheet.specs.Rules.{wrongLength}

@@ -1,5 +1,5 @@
 -- `row_of` meets its contract: past the array the definition has zeros too.
-use Prim.Native.Nat.{_-_, _≤_}
+use Prim.Native.Nat.{_≤_}
 use Rattle.sheet.proofs.values.row_of.Statement.{statement}
 use Rattle.sheet.specs.Values.{noRow}
 use borrow.Author.Needs.{needs}

@@ -1,5 +1,4 @@
 -- `Sheet::empty` meets its contract by computation.
-use Prim.Native.Nat.{_-_}
 use Rattle.sheet.proofs.values.Sheet.empty.Statement.{statement}
 use Rattle.sheet.specs.Values.{emptySheet}
 use mathlib.Core.Path.{refl}
