@@ -1,14 +1,14 @@
 // What the library answers, held to what the sequences show: each answer, each lent cell and each lent byte.
+use crate::lent::bytes_hold;
+use crate::lent::cells_hold;
+use crate::lent::mark_bytes;
+use crate::lent::mark_cells;
 use desk::DemandAnswer;
 use desk::MarginAnswer;
 use desk::ShortestAnswer;
 use desk::VerdictAnswer;
 use smallsheets::memory::byte;
-use smallsheets::memory::bytes_hold;
 use smallsheets::memory::cell;
-use smallsheets::memory::cells_hold;
-use smallsheets::memory::mark_bytes;
-use smallsheets::memory::mark_cells;
 use smallsheets::plan::FIRST_DEADLINE;
 use smallsheets::plan::FIRST_LENGTH;
 use smallsheets::plan::FIRST_PERIOD;

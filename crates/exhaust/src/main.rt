@@ -1,5 +1,6 @@
 // Holds every answer of the library on a family of small sheets to what all their sequences show, found without the library's tables.
 mod compare;
+mod lent;
 mod report;
 
 use compare::LENT;

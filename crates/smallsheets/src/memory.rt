@@ -1,4 +1,4 @@
-// Cells and bytes that are lent: read and written within their bounds, marked before a call and held to the marks after it.
+// Cells and bytes, read and written within their bounds.
 
 pub fn cell(cells: &[u32], at: usize) -> u32 {
     if at < cells.len() { cells[at] } else { 0 }
@@ -43,59 +43,4 @@ pub fn set_byte(bytes: &mut [u8], at: usize, value: u8) -> usize {
     } else {
         at
     }
-}
-
-// What a lent cell holds before a call: no answer of a small sheet, and another at each place.
-fn mark(at: usize) -> u32 {
-    2863311530 - (at % 65536) as u32
-}
-
-fn byte_mark(at: usize) -> u8 {
-    (255 - at % 64) as u8
-}
-
-pub fn mark_cells(cells: &mut [u32]) {
-    let mut at: usize = 0;
-    while at < cells.len() {
-        cells[at] = mark(at);
-        at += 1;
-    }
-}
-
-pub fn mark_bytes(bytes: &mut [u8]) {
-    let mut at: usize = 0;
-    while at < bytes.len() {
-        bytes[at] = byte_mark(at);
-        at += 1;
-    }
-}
-
-// Whether the first cells are those of the table, and the others as they were marked.
-pub fn cells_hold(cells: &[u32], table: &[u32], used: usize) -> bool {
-    let mut at: usize = 0;
-    while at < cells.len() {
-        let must = if at < used { cell(table, at) } else { mark(at) };
-        if cells[at] != must {
-            return false;
-        }
-        at += 1;
-    }
-    true
-}
-
-// Whether the first bytes are those of the witness, and the others as they were marked.
-pub fn bytes_hold(bytes: &[u8], witness: &[u8], used: usize) -> bool {
-    let mut at: usize = 0;
-    while at < bytes.len() {
-        let must = if at < used {
-            byte(witness, at)
-        } else {
-            byte_mark(at)
-        };
-        if bytes[at] != must {
-            return false;
-        }
-        at += 1;
-    }
-    true
 }

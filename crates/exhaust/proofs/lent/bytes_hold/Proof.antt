@@ -1,9 +1,9 @@
 -- `bytes_hold` is safe and ends: the place grows to the end of the bytes.
 use Prim.Native.Nat.{_-_, _≤_}
-use Rattle.smallsheets.proofs.memory.bytes_hold.Statement.{statement}
+use Rattle.exhaust.proofs.lent.bytes_hold.Statement.{statement}
 use borrow.Author.Needs.{needs}
 use lib.ListN.{length}
-use Rattle.smallsheets.proofs.memory.bytes_hold.Tie as tie
+use Rattle.exhaust.proofs.lent.bytes_hold.Tie as tie
 
 abbrev Inv-loop : tie.InvT-loop
 Inv-loop bytes witness used at₀ at = at ≤ length bytes

@@ -1,25 +1,28 @@
--- `mark_bytes` is safe and ends: the place grows to the end of the bytes.
+-- `mark_cells` is safe and ends: the place grows to the end of the cells.
 use Prim.Native.Nat.{_-_}
-use Rattle.smallsheets.proofs.memory.mark_bytes.Statement.{statement}
+use Rattle.exhaust.proofs.lent.mark_cells.Statement.{statement}
 use borrow.Author.Needs.{needs}
 use lib.ListN.{length}
 use mathlib.Core.Path.{_≡_}
-use Rattle.smallsheets.proofs.memory.mark_bytes.Tie as tie
+use Rattle.exhaust.proofs.lent.mark_cells.Tie as tie
 
 abbrev Inv-loop : tie.InvT-loop
-Inv-loop bytes₀ at₀ bytes at = length bytes ≡ length bytes₀
+Inv-loop cells₀ at₀ cells at = length cells ≡ length cells₀
 
 abbrev μ-loop : tie.MeasureT-loop
-μ-loop bytes₀ at₀ bytes at = length bytes₀ - at
+μ-loop cells₀ at₀ cells at = length cells₀ - at
 
 loop-holds : tie.Need-loop-holds Inv-loop μ-loop
 loop-holds c = search needs
 
-byte-mark-requires : tie.Need-byte-mark-requires Inv-loop μ-loop
-byte-mark-requires c κs = search needs
+mark-requires : tie.Need-mark-requires Inv-loop μ-loop
+mark-requires c κs = search needs
 
-slice-write-bytes : tie.Need-slice-write-bytes Inv-loop μ-loop
-slice-write-bytes c = search needs
+mul-cells : tie.Need-mul-cells Inv-loop μ-loop
+mul-cells c = search needs
+
+slice-write-cells : tie.Need-slice-write-cells Inv-loop μ-loop
+slice-write-cells c = search needs
 
 add-at : tie.Need-add-at Inv-loop μ-loop
 add-at c = search needs
@@ -36,15 +39,16 @@ same-length c = search needs
 returns : tie.Need-returns Inv-loop μ-loop
 returns c = search needs
 
-pub mark-bytes-spec : {M : Type 1} → statement M
-mark-bytes-spec =
+pub mark-cells-spec : {M : Type 1} → statement M
+mark-cells-spec =
     tie.close
     (tie.spec
     Inv-loop
     μ-loop
     loop-holds
-    byte-mark-requires
-    slice-write-bytes
+    mark-requires
+    mul-cells
+    slice-write-cells
     add-at
     loop-less
     loop-again

@@ -1,9 +1,9 @@
 -- `cells_hold` is safe and ends: the place grows to the end of the cells.
 use Prim.Native.Nat.{_-_, _≤_}
-use Rattle.smallsheets.proofs.memory.cells_hold.Statement.{statement}
+use Rattle.exhaust.proofs.lent.cells_hold.Statement.{statement}
 use borrow.Author.Needs.{needs}
 use lib.ListN.{length}
-use Rattle.smallsheets.proofs.memory.cells_hold.Tie as tie
+use Rattle.exhaust.proofs.lent.cells_hold.Tie as tie
 
 abbrev Inv-loop : tie.InvT-loop
 Inv-loop cells table used at₀ at = at ≤ length cells
