@@ -11,6 +11,7 @@ use casework::outcome::Outcome;
 use casework::outcome::said;
 use casework::text::Numeral;
 use casework::text::add_words;
+use casework::text::byte;
 use casework::text::counts;
 use casework::text::ends;
 use casework::text::number_of;
@@ -20,7 +21,6 @@ use casework::text::word;
 use check::same;
 use sheet::fields::Kind;
 use sheet::reader::Step;
-use sheet::reader::byte_at;
 use sheet::reader::field_at;
 ghost use Prim.Native.Nat.{_<_, _^_};
 
@@ -196,7 +196,7 @@ fn witness_is(line: &[u8], area: &[u8], count: usize) -> bool {
         if count <= at {
             return ends(line, words_with(at));
         }
-        if !counts(line, 5 + at, byte_at(area, at) as u64) {
+        if !counts(line, 5 + at, byte(area, at) as u64) {
             return false;
         }
         at += 1;

@@ -1,7 +1,7 @@
 // How much was compared and how much of it was wrong, and the lines that say so.
 use crate::outcome::Outcome;
+use crate::text::byte;
 use libc::STDOUT_FILENO;
-use sheet::reader::byte_at;
 
 pub struct Score {
     pub compared: u64,
@@ -105,7 +105,7 @@ fn print_rows(area: &[u8], count: usize) {
             io::write_all(STDOUT_FILENO, b" by");
         }
         io::write_all(STDOUT_FILENO, b" ");
-        io::print_decimal(STDOUT_FILENO, byte_at(area, at) as u64);
+        io::print_decimal(STDOUT_FILENO, byte(area, at) as u64);
         at += 1;
     }
 }

@@ -15,6 +15,11 @@ pub struct Filled {
     pub understood: bool,
 }
 
+// The byte at a place, 0 past the end.
+pub fn byte(bytes: &[u8], at: usize) -> u8 {
+    if at < bytes.len() { bytes[at] } else { 0 }
+}
+
 // The part of bytes between two places, empty where there is none.
 pub fn part(bytes: &[u8], from: usize, to: usize) -> &[u8] {
     if from <= to {

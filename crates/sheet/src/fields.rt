@@ -56,7 +56,7 @@ const FIELDS: [Line; 5] = [
 ];
 
 // The line of a tag; for a tag that has none, a line that allows nothing.
-pub fn line_of(tag: usize) -> Line
+pub(crate) fn line_of(tag: usize) -> Line
     ensures { λ r. ⌜ r ≡ lineOf tag ⌝ }
 {
     if tag == 0 {
@@ -80,7 +80,7 @@ fn no_line() -> Line
 }
 
 // The kind of field that a tag byte begins.
-pub fn kind_of(tag: u8) -> Kind
+pub(crate) fn kind_of(tag: u8) -> Kind
     ensures { λ r. ⌜ r ≡ kindOf tag ⌝ }
 {
     match tag {
@@ -95,7 +95,7 @@ pub fn kind_of(tag: u8) -> Kind
 }
 
 // Whether rule 2 refuses the tag.
-pub fn refused_tag(tag: u8) -> bool
+pub(crate) fn refused_tag(tag: u8) -> bool
     ensures { λ r. ⌜ r ≡ isRefused (kindOf tag) ⌝ }
 {
     let kind = kind_of(tag);

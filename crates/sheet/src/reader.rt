@@ -58,7 +58,7 @@ pub fn field_at(bytes: &[u8], at: usize) -> Step
 }
 
 // Whether a file of `all` bytes has fewer than `more` from a place on.
-pub fn too_short(all: usize, at: usize, more: usize) -> bool
+pub(crate) fn too_short(all: usize, at: usize, more: usize) -> bool
     ensures { λ r. ⌜ r ≡ ltb all (at + more) ⌝ }
 {
     if all < more {
@@ -71,14 +71,14 @@ pub fn too_short(all: usize, at: usize, more: usize) -> bool
 }
 
 // The byte at a place, 0 past the end.
-pub fn byte_at(bytes: &[u8], at: usize) -> u8
+pub(crate) fn byte_at(bytes: &[u8], at: usize) -> u8
     ensures { λ r. ⌜ r ≡ getD (now (bytes .entry)) at 0 ⌝ }
 {
     if at < bytes.len() { bytes[at] } else { 0 }
 }
 
 // The two bytes at a place as a number, high byte first, with zeros past the end.
-pub fn word_at(bytes: &[u8], at: usize) -> u16
+pub(crate) fn word_at(bytes: &[u8], at: usize) -> u16
     ensures { λ r. ⌜ r ≡ wordAt (now (bytes .entry)) at ⌝ }
 {
     if bytes.len() <= at {
@@ -90,7 +90,7 @@ pub fn word_at(bytes: &[u8], at: usize) -> u16
 }
 
 // The four bytes at a place as a number, with zeros past the end.
-pub fn long_at(bytes: &[u8], at: usize) -> u64
+pub(crate) fn long_at(bytes: &[u8], at: usize) -> u64
     ensures { λ r. ⌜ r ≡ longAt (now (bytes .entry)) at ⌝ }
 {
     let high = word_at(bytes, at) as u64;

@@ -11,7 +11,7 @@ ghost use Rattle.sheet.specs.Deciding.{firstBroken};
 ghost use Rattle.sheet.specs.Rules.{outOfOrder, wrongLength, full, badByte, badRpm, unlikeSet, unknownIn, commonRules, modeRules, rowRules, taskRules};
 
 // The first rules of every known field: its place in the order, its length, its count. 0 where none is broken.
-pub fn common_number(tag: usize, last: usize, wrong: bool, count: usize) -> u8
+pub(crate) fn common_number(tag: usize, last: usize, wrong: bool, count: usize) -> u8
     ensures { λ r. ⌜ r ≡ firstBroken (commonRules tag last wrong count) ⌝ }
 {
     let misplaced = out_of_order(last, tag);
@@ -29,7 +29,7 @@ pub fn common_number(tag: usize, last: usize, wrong: bool, count: usize) -> u8
 }
 
 // The rules of a mode's numbers.
-pub fn mode_number(tally: Tally, mode: Mode) -> u8
+pub(crate) fn mode_number(tally: Tally, mode: Mode) -> u8
     ensures { λ r. ⌜ r ≡ firstBroken (modeRules tally mode) ⌝ }
 {
     let boundary = mode.boundary;
@@ -47,7 +47,7 @@ pub fn mode_number(tally: Tally, mode: Mode) -> u8
 }
 
 // The rules of a row's numbers; of its gaps it is told whether one is zero and whether one is below the deadline.
-pub fn row_number(tally: Tally, row: Row, zero: bool, short: bool) -> u8
+pub(crate) fn row_number(tally: Tally, row: Row, zero: bool, short: bool) -> u8
     ensures { λ r. ⌜ r ≡ firstBroken (rowRules tally row zero short) ⌝ }
 {
     let speed = row.speed;
@@ -74,7 +74,7 @@ pub fn row_number(tally: Tally, row: Row, zero: bool, short: bool) -> u8
 }
 
 // The rules of a fixed task's numbers.
-pub fn task_number(task: Task) -> u8
+pub(crate) fn task_number(task: Task) -> u8
     ensures { λ r. ⌜ r ≡ firstBroken (taskRules task) ⌝ }
 {
     let length = task.length;
@@ -93,7 +93,7 @@ pub fn task_number(task: Task) -> u8
 }
 
 // Rule 3: a tag below the last known one, a second field of a kind that stands once, or a required kind passed over.
-pub fn out_of_order(last: usize, tag: usize) -> bool
+pub(crate) fn out_of_order(last: usize, tag: usize) -> bool
     ensures { λ r. ⌜ r ≡ outOfOrder last tag ⌝ }
 {
     if tag < last {
@@ -115,7 +115,7 @@ pub fn out_of_order(last: usize, tag: usize) -> bool
 }
 
 // Rule 5: a length that the tag's line does not allow.
-pub fn wrong_length(tag: usize, size: usize) -> bool
+pub(crate) fn wrong_length(tag: usize, size: usize) -> bool
     ensures { λ r. ⌜ r ≡ wrongLength tag size ⌝ }
 {
     let line = line_of(tag);
@@ -126,14 +126,14 @@ pub fn wrong_length(tag: usize, size: usize) -> bool
 }
 
 // Rule 5 of a row: a length that is not its head and two bytes for each row of the follower set.
-pub fn unlike_set(size: usize, followers: u64) -> bool
+pub(crate) fn unlike_set(size: usize, followers: u64) -> bool
     ensures { λ r. ⌜ r ≡ unlikeSet size followers ⌝ }
 {
     size != Sheet::HEAD + Sheet::GAP * sets::size(followers)
 }
 
 // Rule 6: as many of the kind as a sheet may have.
-pub fn full_of(tag: usize, count: usize) -> bool
+pub(crate) fn full_of(tag: usize, count: usize) -> bool
     ensures { λ r. ⌜ r ≡ full tag count ⌝ }
 {
     let line = line_of(tag);
@@ -141,7 +141,7 @@ pub fn full_of(tag: usize, count: usize) -> bool
 }
 
 // Rule 7 of a label's byte.
-pub fn bad_byte(byte: u8) -> bool
+pub(crate) fn bad_byte(byte: u8) -> bool
     ensures { λ r. ⌜ r ≡ badByte byte ⌝ }
 {
     if byte < 0x20 {
@@ -151,7 +151,7 @@ pub fn bad_byte(byte: u8) -> bool
 }
 
 // Rule 7 of a speed.
-pub fn bad_rpm(speed: Rpm) -> bool
+pub(crate) fn bad_rpm(speed: Rpm) -> bool
     ensures { λ r. ⌜ r ≡ badRpm speed ⌝ }
 {
     if speed.0 == 0 {
@@ -161,7 +161,7 @@ pub fn bad_rpm(speed: Rpm) -> bool
 }
 
 // Rule 9 of one follower set: it has a row that is not among the sheet's.
-pub fn unknown_in(followers: u64, rows: usize) -> bool
+pub(crate) fn unknown_in(followers: u64, rows: usize) -> bool
     ensures { λ r. ⌜ r ≡ unknownIn followers rows ⌝ }
 {
     let next = sets::next_from(followers, rows);

@@ -10,14 +10,14 @@ pub struct Ticks(pub u16);
 
 impl Rpm {
     // Whether this speed is at most the other. A boundary speed is at most its boundary, so it stays in the slower mode.
-    pub fn at_most(self, other: Rpm) -> bool
+    pub(crate) fn at_most(self, other: Rpm) -> bool
         ensures { λ r. ⌜ r ≡ leb (self .0) (other .0) ⌝ }
     {
         self.0 <= other.0
     }
 
     // Whether this speed is above the other.
-    pub fn above(self, other: Rpm) -> bool
+    pub(crate) fn above(self, other: Rpm) -> bool
         ensures { λ r. ⌜ r ≡ ltb (other .0) (self .0) ⌝ }
     {
         other.0 < self.0
@@ -26,7 +26,7 @@ impl Rpm {
 
 impl Ticks {
     // Whether this time is shorter than the other.
-    pub fn shorter(self, other: Ticks) -> bool
+    pub(crate) fn shorter(self, other: Ticks) -> bool
         ensures { λ r. ⌜ r ≡ ltb (self .0) (other .0) ⌝ }
     {
         self.0 < other.0

@@ -108,7 +108,7 @@ impl Sheet {
 }
 
 // The row of a number, a row of zeros past the array.
-pub fn row_of(rows: [Row; Sheet::ROWS], number: usize) -> Row
+pub(crate) fn row_of(rows: [Row; Sheet::ROWS], number: usize) -> Row
     ensures { λ r. ⌜ r ≡ getD rows number noRow ⌝ }
 {
     if number < Sheet::ROWS {

@@ -4,8 +4,8 @@ use casework::outcome::Outcome;
 use casework::report::Score;
 use casework::report::print_score;
 use casework::report::print_wrong;
+use casework::text::byte;
 use casework::text::part;
-use sheet::reader::byte_at;
 ghost use Prim.Native.Nat.{_≤_};
 
 // Tells of each kind of bad file, and answers the score of all.
@@ -136,5 +136,5 @@ fn field_size(file: &[u8]) -> usize
     if file.len() < 3 {
         return 3;
     }
-    3 + byte_at(file, 1) as usize * 256 + byte_at(file, 2) as usize
+    3 + byte(file, 1) as usize * 256 + byte(file, 2) as usize
 }

@@ -26,8 +26,8 @@ returns c = search needs
 add-counts : tie.Need-add-counts Inv-loop μ-loop
 add-counts c = search needs
 
-byte-at-requires : tie.Need-byte-at-requires Inv-loop μ-loop
-byte-at-requires c κs = search needs
+byte-requires : tie.Need-byte-requires Inv-loop μ-loop
+byte-requires c κs = search needs
 
 cast-counts : tie.Need-cast-counts Inv-loop μ-loop
 cast-counts c = search needs
@@ -67,7 +67,7 @@ witness-is-spec =
     ends-requires
     returns
     add-counts
-    byte-at-requires
+    byte-requires
     cast-counts
     counts-requires
     returns-2

@@ -29,8 +29,8 @@ slice-aggregate-write-all-2 c = search needs
 write-all-requires-2 : tie.Need-write-all-requires-2 Inv-loop μ-loop
 write-all-requires-2 c κs = search needs
 
-byte-at-requires : tie.Need-byte-at-requires Inv-loop μ-loop
-byte-at-requires c κs = search needs
+byte-requires : tie.Need-byte-requires Inv-loop μ-loop
+byte-requires c κs = search needs
 
 cast-print-decimal : tie.Need-cast-print-decimal Inv-loop μ-loop
 cast-print-decimal c = search needs
@@ -62,7 +62,7 @@ print-rows-spec =
     write-all-requires
     slice-aggregate-write-all-2
     write-all-requires-2
-    byte-at-requires
+    byte-requires
     cast-print-decimal
     print-decimal-requires
     add-at
