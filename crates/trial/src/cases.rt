@@ -1,9 +1,9 @@
 // The cases of a text, line by line: a line sets what holds from there on, or is a case.
-use crate::bulk::prefixes;
-use asking::compare::Compared;
-use asking::compare::Lent;
-use asking::compare::compare;
-use asking::compare::unread;
+use asking::Compared;
+use asking::Lent;
+use asking::compare;
+use asking::unread;
+use badfiles::prefixes;
 use casework::report::Score;
 use casework::report::print_score;
 use casework::report::print_wrong;

@@ -1,5 +1,4 @@
 // Runs the cases on standard input and the bad files that it makes itself, and says how many answers were compared and how many were wrong.
-mod bulk;
 mod cases;
 
 use libc::STDIN_FILENO;
@@ -8,6 +7,6 @@ fn main() {
     let mut text = [0u8; 400000];
     let size = io::read_full(STDIN_FILENO, &mut text);
     let told = cases::run(&text[..size]);
-    let made = bulk::run();
+    let made = badfiles::run();
     casework::report::print_score(b"in all", told.and(made));
 }

@@ -2,8 +2,8 @@
 use Prim.Native.Nat.{_-_, _≤_}
 use lib.ListN.{length}
 use borrow.Author.Needs.{needs}
-use Rattle.trial.proofs.bulk.last_start.Statement.{statement}
-use Rattle.trial.proofs.bulk.last_start.Tie as tie
+use Rattle.badfiles.proofs.last_start.Statement.{statement}
+use Rattle.badfiles.proofs.last_start.Tie as tie
 
 abbrev Inv-loop : tie.InvT-loop
 Inv-loop file at₀ at = at ≤ length file

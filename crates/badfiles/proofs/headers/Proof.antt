@@ -1,8 +1,8 @@
 -- `headers` is safe and ends: the number of the file grows to 65,536.
 use Prim.Native.Nat.{_-_, _≤_}
 use borrow.Author.Needs.{needs}
-use Rattle.trial.proofs.bulk.headers.Statement.{statement}
-use Rattle.trial.proofs.bulk.headers.Tie as tie
+use Rattle.badfiles.proofs.headers.Statement.{statement}
+use Rattle.badfiles.proofs.headers.Tie as tie
 
 abbrev Inv-loop : tie.InvT-loop
 Inv-loop score₀ number₀ score number = number ≤ 65536

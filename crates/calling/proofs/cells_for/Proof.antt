@@ -2,8 +2,8 @@
 use native.Mathlib.Nat.{mul-le-mul}
 use native.Mathlib.Omega.{arith}
 use borrow.Author.Needs.{needs}
-use Rattle.asking.proofs.calls.cells_for.Statement.{statement}
-use Rattle.asking.proofs.calls.cells_for.Tie as tie
+use Rattle.calling.proofs.cells_for.Statement.{statement}
+use Rattle.calling.proofs.cells_for.Tie as tie
 
 returns : tie.Need-returns
 returns c = search needs

@@ -3,8 +3,8 @@ use Prim.Native.Nat.{_-_, _≤_}
 use lib.ListN.{length}
 use borrow.Author.Needs.{needs}
 use mathlib.Core.Path.{_≡_}
-use Rattle.asking.proofs.compare.refusal_by_all.Statement.{statement}
-use Rattle.asking.proofs.compare.refusal_by_all.Tie as tie
+use Rattle.asking.proofs.refusal_by_all.Statement.{statement}
+use Rattle.asking.proofs.refusal_by_all.Tie as tie
 
 abbrev Inv-loop : tie.InvT-loop
 Inv-loop bytes must cells₀ area₀ made₀ cells area made = (made ≤ 10) × (length cells ≡ length cells₀) × (length area ≡ length area₀)

@@ -1,8 +1,8 @@
 -- `skipped_fields` is safe and ends: the number of the file grows to 32,768.
 use Prim.Native.Nat.{_-_, _≤_}
 use borrow.Author.Needs.{needs}
-use Rattle.trial.proofs.bulk.skipped_fields.Statement.{statement}
-use Rattle.trial.proofs.bulk.skipped_fields.Tie as tie
+use Rattle.badfiles.proofs.skipped_fields.Statement.{statement}
+use Rattle.badfiles.proofs.skipped_fields.Tie as tie
 
 abbrev Inv-loop : tie.InvT-loop
 Inv-loop score₀ number₀ score number = number ≤ 32768

@@ -2,8 +2,8 @@
 use Prim.Native.Nat.{_-_, _≤_}
 use lib.ListN.{length}
 use borrow.Author.Needs.{needs}
-use Rattle.asking.proofs.compare.witness_is.Statement.{statement}
-use Rattle.asking.proofs.compare.witness_is.Tie as tie
+use Rattle.asking.proofs.witness_is.Statement.{statement}
+use Rattle.asking.proofs.witness_is.Tie as tie
 
 abbrev Inv-loop : tie.InvT-loop
 Inv-loop line area count at₀ at = at ≤ length area

@@ -1,5 +1,5 @@
 // Bad files in bulk, made here, with the refusals that document 01 gives them.
-use asking::calls::judged;
+use calling::judged;
 use casework::outcome::Outcome;
 use casework::report::Score;
 use casework::report::print_score;

@@ -11,8 +11,8 @@ use mir.Val.{SFits, toZ, ofZ}
 use mir.Facts.{toZ-ofZ, fits-natAbs}
 use borrow.Author.Needs.{needs}
 use borrow.Author.Tests.{lt-ltb, ltb-true}
-use Rattle.asking.proofs.calls.size_of.Statement.{statement}
-use Rattle.asking.proofs.calls.size_of.Tie as tie
+use Rattle.calling.proofs.size_of.Statement.{statement}
+use Rattle.calling.proofs.size_of.Tie as tie
 
 -- what a number below 0, plus one, is below 0
 turned : (z : ℤ) → ltZ z (pos 0) ≡ true → pos 0 -ℤ (z +ℤ pos 1) ≡ pos (mag z)
