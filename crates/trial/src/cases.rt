@@ -16,6 +16,13 @@ use casework::text::part;
 use casework::text::says;
 use casework::text::word;
 
+// What is lent to the calls: bytes for the longest sheet, with three skipped fields of the greatest length; cells for ten rows up to interval 62,500; and more bytes than the longest witness has rows.
+const SHEET: usize = 200000;
+
+const CELLS: usize = 640000;
+
+const AREA: usize = 300;
+
 // Where the reading stands: the line's number, the size of the sheet, what is lent, where the line that names the group starts, and the scores of the group and of the groups before.
 struct State {
     line: u64,
@@ -54,10 +61,20 @@ enum Line {
 
 // Reads a text to its end, and answers how many answers were compared and how many were wrong.
 pub fn run(text: &[u8]) -> Score {
-    let mut sheet = [0u8; 200000];
-    let mut cells = [0u32; 640000];
-    let mut area = [0u8; 300];
-    run_on(text, &mut sheet, &mut cells, &mut area)
+    let mut sheet = [0u8; SHEET];
+    let mut cells = [0u32; CELLS];
+    let mut area = [0u8; AREA];
+    run_in(text, &mut sheet, &mut cells, &mut area)
+}
+
+// Lends the arrays as slices. Here their lengths stand in their types, while those of local arrays are counted out by the checker, one by one.
+fn run_in(
+    text: &[u8],
+    sheet: &mut [u8; SHEET],
+    cells: &mut [u32; CELLS],
+    area: &mut [u8; AREA],
+) -> Score {
+    run_on(text, sheet, cells, area)
 }
 
 fn run_on(text: &[u8], sheet: &mut [u8], cells: &mut [u32], area: &mut [u8]) -> Score {
