@@ -9,13 +9,11 @@ use desk::ShortestAnswer;
 use desk::VerdictAnswer;
 use smallsheets::memory::byte;
 use smallsheets::memory::cell;
-use smallsheets::plan::FIRST_DEADLINE;
-use smallsheets::plan::FIRST_LENGTH;
-use smallsheets::plan::FIRST_PERIOD;
-use smallsheets::plan::SECOND_DEADLINE;
-use smallsheets::plan::SECOND_LENGTH;
-use smallsheets::plan::SECOND_PERIOD;
+use smallsheets::plan::Task;
 use smallsheets::plan::cell_of;
+use smallsheets::plan::first_task;
+use smallsheets::plan::product;
+use smallsheets::plan::second_task;
 use smallsheets::plan::sum;
 use smallsheets::sequences::HORIZON;
 use smallsheets::sequences::LARGEST;
@@ -73,18 +71,16 @@ fn demand_is(
     }
 }
 
-fn first_demand(interval: u32) -> u32 {
-    if interval < FIRST_DEADLINE {
+// The fixed demand of one task, as document 01 has it; a period of 0 has none.
+fn task_demand(task: Task, interval: u32) -> u32 {
+    if interval < task.deadline {
         return 0;
     }
-    FIRST_LENGTH * (1 + (interval - FIRST_DEADLINE) / FIRST_PERIOD)
-}
-
-fn second_demand(interval: u32) -> u32 {
-    if interval < SECOND_DEADLINE {
+    if task.period == 0 {
         return 0;
     }
-    SECOND_LENGTH * (1 + (interval - SECOND_DEADLINE) / SECOND_PERIOD)
+    let later = (interval - task.deadline) / task.period;
+    product(task.length, sum(1, later))
 }
 
 // The fixed demand of a plan's tasks.
@@ -92,10 +88,11 @@ fn fixed_demand(tasks: usize, interval: u32) -> u32 {
     if tasks == 0 {
         return 0;
     }
+    let first = task_demand(first_task(), interval);
     if tasks == 1 {
-        return first_demand(interval);
+        return first;
     }
-    sum(first_demand(interval), second_demand(interval))
+    sum(first, task_demand(second_task(), interval))
 }
 
 // What engine and fixed tasks need together.

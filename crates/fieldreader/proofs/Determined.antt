@@ -18,7 +18,6 @@ use Rattle.fieldreader.proofs.Reader.advance as advance
 use Rattle.fieldreader.proofs.Reader.new as new
 use Rattle.fieldreader.proofs.Reader.step as step
 use Rattle.fieldreader.proofs.after_at as after-at
-use Rattle.fieldreader.proofs.first_step as first-step
 
 module _ (T : Ended) where
   -- a function's contract, in every model of the logic
@@ -76,6 +75,3 @@ advance-one =
 
 pub after-at-one : Determined after-at.ended (λ M 𝓤. after-at.clauses 𝓤)
 after-at-one = one-value after-at.ended _ _ (λ M 𝓤 H A mem run κs args ghost x exit. refl)
-
-pub first-step-one : Determined first-step.ended (λ M 𝓤. first-step.clauses 𝓤)
-first-step-one = one-value first-step.ended _ _ (λ M 𝓤 H A mem run κs args ghost x exit. refl)

@@ -54,10 +54,3 @@ pub fn after_at(bytes: &[u8], at: usize) -> usize
         } => at,
     }
 }
-
-// The first step over the bytes, for callers who want no reader.
-pub fn first_step(bytes: &[u8]) -> Step
-    ensures { λ r. ⌜ r ≡ fieldAt (now (bytes .entry)) 0 ⌝ }
-{
-    Reader::new(bytes).step()
-}

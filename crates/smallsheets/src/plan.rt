@@ -9,18 +9,29 @@ pub struct Plan {
     pub gaps: [u32; 9],
 }
 
-// The fixed tasks that a plan takes none, the first or both of. The second one's deadline is longer than its period.
-pub const FIRST_LENGTH: u32 = 1;
+// A fixed-period task.
+pub struct Task {
+    pub length: u32,
+    pub period: u32,
+    pub deadline: u32,
+}
 
-pub const FIRST_PERIOD: u32 = 5;
+// The tasks that a plan takes none, the first or both of. The second one's deadline is longer than its period.
+pub fn first_task() -> Task {
+    Task {
+        length: 1,
+        period: 5,
+        deadline: 4,
+    }
+}
 
-pub const FIRST_DEADLINE: u32 = 4;
-
-pub const SECOND_LENGTH: u32 = 2;
-
-pub const SECOND_PERIOD: u32 = 3;
-
-pub const SECOND_DEADLINE: u32 = 5;
+pub fn second_task() -> Task {
+    Task {
+        length: 2,
+        period: 3,
+        deadline: 5,
+    }
+}
 
 impl Plan {
     pub fn length(self, row: usize) -> u32 {
@@ -48,6 +59,18 @@ pub const MOST: u32 = 4294967295;
 pub fn sum(first: u32, second: u32) -> u32 {
     if second <= MOST - first {
         first + second
+    } else {
+        MOST
+    }
+}
+
+// The product of two numbers, or the largest number where that is more.
+pub fn product(first: u32, second: u32) -> u32 {
+    if second == 0 {
+        return 0;
+    }
+    if first <= MOST / second {
+        first * second
     } else {
         MOST
     }

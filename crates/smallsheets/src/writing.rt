@@ -1,12 +1,9 @@
 // The bytes of a plan's file, as document 01 lays them out.
 use crate::memory::set_byte;
-use crate::plan::FIRST_DEADLINE;
-use crate::plan::FIRST_LENGTH;
-use crate::plan::FIRST_PERIOD;
 use crate::plan::Plan;
-use crate::plan::SECOND_DEADLINE;
-use crate::plan::SECOND_LENGTH;
-use crate::plan::SECOND_PERIOD;
+use crate::plan::Task;
+use crate::plan::first_task;
+use crate::plan::second_task;
 ghost use Prim.Native.Nat.{_≤_};
 
 fn put_word(bytes: &mut [u8], at: usize, word: u32) -> usize {
@@ -68,22 +65,22 @@ fn put_rows(bytes: &mut [u8], at: usize, plan: Plan) -> usize {
     next
 }
 
-fn put_task(bytes: &mut [u8], at: usize, length: u32, period: u32, deadline: u32) -> usize {
+fn put_task(bytes: &mut [u8], at: usize, task: Task) -> usize {
     let head = put_head(bytes, at, 4, 6);
-    let next = put_word(bytes, head, length);
-    let last = put_word(bytes, next, period);
-    put_word(bytes, last, deadline)
+    let next = put_word(bytes, head, task.length);
+    let last = put_word(bytes, next, task.period);
+    put_word(bytes, last, task.deadline)
 }
 
 fn put_tasks(bytes: &mut [u8], at: usize, tasks: usize) -> usize {
     if tasks == 0 {
         return at;
     }
-    let next = put_task(bytes, at, FIRST_LENGTH, FIRST_PERIOD, FIRST_DEADLINE);
+    let next = put_task(bytes, at, first_task());
     if tasks == 1 {
         return next;
     }
-    put_task(bytes, next, SECOND_LENGTH, SECOND_PERIOD, SECOND_DEADLINE)
+    put_task(bytes, next, second_task())
 }
 
 // A mode for each of three rows, also where there are fewer.
