@@ -3,16 +3,14 @@ use Prim.Native.Nat.{ℕ, zero, suc, _+_, _-_, _<_, _≤_}
 use native.Mathlib.Nat.{sub-eq-zero-of-le, eq-or-lt-of-le}
 use native.Mathlib.Numerals.{add-one}
 use native.Mathlib.Omega.{arith}
-use mathlib.Core.Path.{_≡_, _∙_, refl, sym, ap}
+use mathlib.Core.Path.{_≡_, _∙_, refl, sym}
 use mathlib.Core.Logic.{⊎-elim}
-use mathlib.Core.List.{List, [], _∷_}
+use mathlib.Core.List.{List, [], _∷_, _++_}
 use mathlib.Core.Bool.{Bool, true, false, _&&_, true≢false}
 use lib.Dec.{T, ltb, leb, leb→le}
-use mir.Facts.{and-yes}
+use mir.Facts.{and-yes, yes-and}
 use borrow.Author.Tests.{lt-ltb, le-ltb, le-leb, lt-leb, eq-eqb, ne-eqb, ltb-true, ltb-false}
-use Rattle.sheet.specs.Deciding.{Rule, _when_, pick, firstBroken, anyFrom}
-use Rattle.sheet.specs.Judging.{checked, refusedAt}
-use Rattle.sheet.specs.declared.judging.Taken.{Taken}
+use Rattle.sheet.specs.Deciding.{Rule, _when_, pick, judgedBy, firstBroken, anyFrom}
 
 pub yes : {A : Type 0} (b : Bool) (x y z : A) → b ≡ true → z ≡ x → z ≡ pick b x y
 unfolding pick
@@ -40,12 +38,9 @@ told-lt r a b p q = ltb-true a b (told r (ltb a b) true p q)
 pub told-le : (r : Bool) (a b : ℕ) → r ≡ ltb a b → r ≡ false → b ≤ a
 told-le r a b p q = ltb-false a b (told r (ltb a b) false p q)
 
--- a rule whose test a call answered: it was not broken, and the next rules decide; it was broken
+-- a rule whose test a call answered: it was not broken, and the next rules decide
 pub kept : {A : Type 0} (b : Bool) (x y z : A) (r : Bool) → r ≡ b → r ≡ false → z ≡ y → z ≡ pick b x y
 kept b x y z r p q h = no b x y z (told r b false p q) h
-
-pub broke : {A : Type 0} (b : Bool) (x y z : A) (r : Bool) → r ≡ b → r ≡ true → z ≡ x → z ≡ pick b x y
-broke b x y z r p q h = yes b x y z (told r b true p q) h
 
 pub ruleset judging = (no, yes, told, is-lt, is-not-lt, lt-ltb, le-ltb, le-leb, lt-leb, eq-eqb, ne-eqb)
 
@@ -113,23 +108,50 @@ all-kept [] t e = tt
 all-kept (n when true ∷ rules) t e = absurd (omega (arith, e, first-numbered n true rules t))
 all-kept (n when false ∷ rules) t e = (refl, all-kept rules (first-numbered n false rules t .1) e)
 
-module _ (at : ℕ) where
-  decided-ok : (rules : List Rule) (ok : Taken) → T (numbered rules) → firstBroken rules ≡ 0 → checked at rules ok ≡ ok
-  unfolding pick checked firstBroken
-  decided-ok [] ok t e = refl
-  decided-ok (n when true ∷ rules) ok t e = absurd (omega (arith, e, first-numbered n true rules t))
-  decided-ok (n when false ∷ rules) ok t e = decided-ok rules ok (first-numbered n false rules t .1) e
+-- rules that stand one after the other
+broken-first : (first rest : List Rule) → (firstBroken first ≡ 0 → ⊥) → firstBroken first ≡ firstBroken (first ++ rest)
+unfolding pick firstBroken
+broken-first [] rest some = absurd (some refl)
+broken-first (n when true ∷ first) rest some = refl
+broken-first (n when false ∷ first) rest some = broken-first first rest some
 
-  decided-no : (rules : List Rule) (ok : Taken) → (firstBroken rules ≡ 0 → ⊥) → checked at rules ok ≡ refusedAt (firstBroken rules) at
-  unfolding pick checked firstBroken
-  decided-no [] ok e = absurd (e refl)
-  decided-no (n when true ∷ rules) ok e = refl
-  decided-no (n when false ∷ rules) ok e = decided-no rules ok e
+broken-rest : (first rest : List Rule) → T (numbered first) → firstBroken first ≡ 0 → firstBroken (first ++ rest) ≡ firstBroken rest
+unfolding pick firstBroken
+broken-rest [] rest t e = refl
+broken-rest (n when true ∷ first) rest t e = absurd (omega (arith, e, first-numbered n true first t))
+broken-rest (n when false ∷ first) rest t e = broken-rest first rest (first-numbered n false first t .1) e
 
-  -- a call answered the number of the first rule that is broken: it is 0, and what follows decides
-  pub pass : (rules : List Rule) (ok r : Taken) (n : ℕ) → T (numbered rules) → n ≡ firstBroken rules → n ≡ 0 → r ≡ ok → r ≡ checked at rules ok
-  pass rules ok r n t e z h = h ∙ sym (decided-ok rules ok t (sym e ∙ z))
+pub both-kept : (first rest : List Rule) → Kept (first ++ rest) → Kept first × Kept rest
+both-kept [] rest k = (tt, k)
+both-kept (n when b ∷ first) rest k =
+    let both = both-kept first rest (k .1) in
+    ((k .0, both .0), both .1)
 
-  -- it is not 0, and r refuses with it
-  pub stop : (rules : List Rule) (ok r : Taken) (n : ℕ) → n ≡ firstBroken rules → (n ≡ 0 → ⊥) → r ≡ refusedAt n at → r ≡ checked at rules ok
-  stop rules ok r n e z h = h ∙ ap (λ k. refusedAt k at) e ∙ sym (decided-no rules ok (λ q. z (e ∙ q)))
+pub both-numbered : (first rest : List Rule) → T (numbered first) → T (numbered rest) → T (numbered (first ++ rest))
+both-numbered [] rest t u = u
+both-numbered (n when b ∷ first) rest t u =
+    let all = and-yes (leb 1 n && leb n lastRule) (numbered first) t in
+    yes-and (leb 1 n && leb n lastRule) (numbered (first ++ rest)) (all .0) (both-numbered first rest (all .1) u)
+
+-- what the first broken rule decides, and what none decides
+module _ {A : Type 0} (refuse : ℕ → A) (ok : A) where
+  pub by-broken : (rules : List Rule) → (firstBroken rules ≡ 0 → ⊥) → judgedBy refuse rules ok ≡ refuse (firstBroken rules)
+  unfolding pick firstBroken
+  by-broken [] some = absurd (some refl)
+  by-broken (n when true ∷ rules) some = refl
+  by-broken (n when false ∷ rules) some = by-broken rules some
+
+  pub by-none : (rules : List Rule) → T (numbered rules) → firstBroken rules ≡ 0 → judgedBy refuse rules ok ≡ ok
+  unfolding pick firstBroken
+  by-none [] t e = refl
+  by-none (n when true ∷ rules) t e = absurd (omega (arith, e, first-numbered n true rules t))
+  by-none (n when false ∷ rules) t e = by-none rules (first-numbered n false rules t .1) e
+
+module _ (first rest : List Rule) (n : ℕ) (told-first : n ≡ firstBroken first) where
+  -- a call answered the number of the first rule that is broken: it is not 0, and is that of all the rules
+  pub stop : (n ≡ 0 → ⊥) → n ≡ firstBroken (first ++ rest)
+  stop some = told-first ∙ broken-first first rest (λ e. some (told-first ∙ e))
+
+  -- it is 0, and the rules behind decide
+  pub pass : (r : ℕ) → T (numbered first) → n ≡ 0 → r ≡ firstBroken rest → r ≡ firstBroken (first ++ rest)
+  pass r t z e = e ∙ sym (broken-rest first rest t (sym told-first ∙ z))

@@ -3,15 +3,16 @@ use Prim.Native.Nat.{ℕ, zero, suc, _+_, _≤_, _<_}
 use native.Mathlib.Omega.{arith}
 use mathlib.Core.Path.{_≡_, refl}
 use mathlib.Core.List.{List, [], _∷_}
-use mathlib.Core.Bool.{Bool, true, false}
-use lib.Dec.{T}
+use mathlib.Core.Bool.{true, false, true≢false}
+use lib.Dec.{T, ltb}
 use lib.ListN.{length}
 use borrow.Author.Tests.{ltb-false}
 use Rattle.sheet.specs.Deciding.{Rule, _when_, pick}
+use Rattle.sheet.specs.Fields.{isEnd}
 use Rattle.sheet.specs.Reading.{fieldAt, modeAt, rowAt, taskAt}
 use Rattle.sheet.specs.Values.{emptySheet, withLabel, withMode, withRow, withTask}
-use Rattle.sheet.specs.Rules.{outOfOrder, wrongLength, wrongRow, badText, unknownFollower, commonRules, modeRules, rowGapRules, taskRules}
-use Rattle.sheet.specs.Judging.{refusal, refusedAt, goesOn, acceptedAs, checked, labelJudged, modeJudged, rowJudged, taskJudged, endJudged, fieldJudged, onField, walk, judged}
+use Rattle.sheet.specs.Rules.{outOfOrder, wrongLength, wrongRow, badText, unknownFollower, commonRules, textRules, modeRules, rowGapRules, taskRules}
+use Rattle.sheet.specs.Judging.{refusal, headRules, ownRules, fieldRules, withField, checked, endJudged, onField, walk, judged}
 use Rattle.sheet.specs.declared.fields.Kind.{Kind}
 use Rattle.sheet.specs.declared.fields.Kind.the-variants.{RefusedTag, LabelField, ModeField, RowField, TaskField, EndField, SkippedField}
 use Rattle.sheet.specs.declared.reader.Step.{Step}
@@ -19,24 +20,14 @@ use Rattle.sheet.specs.declared.reader.Step.the-variants.{Field, Refusal
 use Rattle.sheet.specs.declared.values.Sheet.{Sheet}
 use Rattle.sheet.specs.declared.Answer.the-variants.{Accepted}
 use Rattle.sheet.specs.declared.Judged.{Judged}
-use Rattle.sheet.specs.declared.judging.Taken.{Taken}
 use Rattle.sheet.proofs.Deciding.{Kept, OfFile, numbered, first-numbered}
-use Rattle.sheet.proofs.Numbered.{common-numbered, mode-numbered, row-numbered, task-numbered}
+use Rattle.sheet.proofs.Numbered.{common-says, field-numbered, field-kept}
 use Rattle.sheet.proofs.Walking.{field-in, refused-in}
 
--- where the file is judged its answer has Q, and where it goes on the sheet has P
-abbrev pub Decides : (Sheet → Type 0) → (Judged → Type 0) → Bool → Judged → Type 0
-Decides P Q true judged = Q judged
-Decides P Q false judged = P (judged .sheet)
-
--- the same of what a field makes of the sheet
-abbrev pub KeptOn : (Sheet → Type 0) → (Judged → Type 0) → Taken → Type 0
-KeptOn P Q taken = Decides P Q (taken .over) (taken .judged)
-
-module _ (P : Sheet → Type 0) (Q : Judged → Type 0) (place : ℕ) (refused : (n : ℕ) → OfFile n → Q (refusal n place)) where
-  -- what holds of each refusal, and of `ok` where every rule is kept, holds of a field that is checked
-  pub checked-keeps : (rules : List Rule) (ok : Taken) → T (numbered rules) → (Kept rules → KeptOn P Q ok) → KeptOn P Q (checked place rules ok)
-  unfolding checked refusedAt pick
+module _ (Q : Judged → Type 0) (place : ℕ) (refused : (n : ℕ) → OfFile n → Q (refusal n place)) where
+  -- what holds of each refusal, and of `ok` where every rule is kept, holds of what is checked
+  pub checked-keeps : (rules : List Rule) (ok : Judged) → T (numbered rules) → (Kept rules → Q ok) → Q (checked place rules ok)
+  unfolding pick
   checked-keeps [] ok t f = f tt
   checked-keeps (n when true ∷ rules) ok t f = refused n (first-numbered n true rules t .0)
   checked-keeps (n when false ∷ rules) ok t f = checked-keeps rules ok (first-numbered n false rules t .1) (λ k. f (refl, k))
@@ -71,40 +62,31 @@ module _ (bytes : List ℕ) (P : ℕ → Sheet → Type 0) (Q : Judged → Type 
   refused-after : (kind : Kind) (at start size next : ℕ) → fieldAt bytes at ≡ Field kind start size next → (n : ℕ) → OfFile n → Q (refusal n next)
   refused-after kind at start size next e n o = keeps .refused n next o (field-in bytes at kind start size next e .2)
 
-  -- the rules of each kind are tried in their order, and what the kind's line of `Keeps` asks for is then at hand
-  field-keeps : (sheet : Sheet) (kind : Kind) (at start size next : ℕ) → fieldAt bytes at ≡ Field kind start size next → P at sheet
-      → KeptOn (P next) Q (fieldJudged bytes sheet kind at start size next)
-  unfolding fieldJudged labelJudged modeJudged rowJudged taskJudged endJudged goesOn acceptedAs refusedAt
-  field-keeps sheet RefusedTag at start size next e p = refused-at _ at start size next e 2 (omega arith)
-  field-keeps sheet LabelField at start size next e p =
-      let no = refused-at _ at start size next e in
-      checked-keeps (P next) Q at no _ _ (common-numbered _ _ _ _)
-      (λ common. checked-keeps (P next) Q at no _ _ tt (λ own. keeps .label sheet at start size next e p common (own .0)))
-  field-keeps sheet ModeField at start size next e p =
-      let no = refused-at _ at start size next e in
-      checked-keeps (P next) Q at no _ _ (common-numbered _ _ _ _)
-      (λ common. checked-keeps (P next) Q at no _ _ (mode-numbered _ _) (keeps .mode sheet at start size next e p common))
-  field-keeps sheet RowField at start size next e p =
-      let no = refused-at _ at start size next e in
-      checked-keeps (P next) Q at no _ _ (common-numbered _ _ _ _)
-      (λ common. checked-keeps (P next) Q at no _ _ (row-numbered _ _ _) (keeps .row sheet at start size next e p common))
-  field-keeps sheet TaskField at start size next e p =
-      let no = refused-at _ at start size next e in
-      checked-keeps (P next) Q at no _ _ (common-numbered _ _ _ _)
-      (λ common. checked-keeps (P next) Q at no _ _ (task-numbered _) (keeps .task sheet at start size next e p common))
-  field-keeps sheet EndField at start size next e p =
-      checked-keeps (P next) Q at (refused-at _ at start size next e) _ _ tt
-      (λ own. checked-keeps (P next) Q next (refused-after _ at start size next e) _ _ tt
+  -- the end, where the field itself is in order
+  end-keeps : (sheet : Sheet) (at start size next : ℕ) → fieldAt bytes at ≡ Field EndField start size next → P at sheet
+      → outOfOrder (sheet .tally .last) 5 ≡ false → wrongLength 5 size ≡ false → Q (endJudged bytes sheet at next)
+  unfolding endJudged
+  end-keeps sheet at start size next e p order long =
+      checked-keeps Q at (refused-at _ at start size next e) (9 when (unknownFollower (sheet .rows) (sheet .tally .rows)) ∷ []) _ tt
+      (λ followers. checked-keeps Q next (refused-after _ at start size next e) (4 when (ltb next (length bytes)) ∷ []) _ tt
       (λ last.
       let end : length bytes ≤ next = ltb-false _ _ (last .0) in
-      keeps .accepted sheet at start size next e p (own .0) (own .1 .0) (own .1 .1 .0) (omega (arith, field-in bytes at _ start size next e))))
-  field-keeps sheet SkippedField at start size next e p = keeps .skipped sheet at start size next e p
+      keeps .accepted sheet at start size next e p order long (followers .0) (omega (arith, field-in bytes at _ start size next e))))
 
-  -- what a field decides, or else the rest of the file
-  either : (sheets : Sheet → Type 0) (over : Bool) (stands rest : Judged) → Decides sheets Q over stands → (sheets (stands .sheet) → Q rest) → Q (pick over stands rest)
-  unfolding pick
-  either sheets true stands rest k f = k
-  either sheets false stands rest k f = f k
+  -- what is left to judge where the rules of the field are kept: the kind's line of `Keeps` has what it asks for
+  rest-keeps : (sheet : Sheet) (kind : Kind) (at start size next : ℕ) (rest : Judged) → fieldAt bytes at ≡ Field kind start size next → P at sheet
+      → Kept (headRules bytes (sheet .tally) kind start size) → Kept (ownRules bytes (sheet .tally) kind start size)
+      → (P next (withField bytes sheet kind start size) → Q rest) → Q (pick (isEnd kind) (endJudged bytes sheet at next) rest)
+  unfolding headRules ownRules textRules withField pick
+  rest-keeps sheet RefusedTag at start size next rest e p head own f = absurd (true≢false (head .0))
+  rest-keeps sheet LabelField at start size next rest e p head own f = f (keeps .label sheet at start size next e p head (own .0))
+  rest-keeps sheet ModeField at start size next rest e p head own f = f (keeps .mode sheet at start size next e p head own)
+  rest-keeps sheet RowField at start size next rest e p head own f = f (keeps .row sheet at start size next e p head own)
+  rest-keeps sheet TaskField at start size next rest e p head own f = f (keeps .task sheet at start size next e p head own)
+  rest-keeps sheet EndField at start size next rest e p head own f =
+      let says = common-says _ _ _ _ head in
+      end-keeps sheet at start size next e p (says .0) (says .1)
+  rest-keeps sheet SkippedField at start size next rest e p head own f = f (keeps .skipped sheet at start size next e p)
 
   -- one field, where what is left of the file keeps Q
   one-field : (sheet : Sheet) (at n : ℕ) (step : Step) → fieldAt bytes at ≡ step → at ≤ length bytes → length bytes < suc n + at → P at sheet
@@ -116,7 +98,10 @@ module _ (bytes : List ℕ) (P : ℕ → Sheet → Type 0) (Q : Judged → Type 
       keeps .refused number place (r .0) (omega (arith, r .1))
   one-field sheet at n (Field kind start size next) e inside enough p rest =
       let lies = field-in bytes at kind start size next e in
-      either (P next) _ _ _ (field-keeps sheet kind at start size next e p) (rest next _ (lies .2) (omega arith))
+      checked-keeps Q at (refused-at kind at start size next e) (fieldRules bytes (sheet .tally) kind start size) _ (field-numbered bytes (sheet .tally) start size kind)
+      (λ kept.
+      let both = field-kept bytes (sheet .tally) start size kind kept in
+      rest-keeps sheet kind at start size next _ e p (both .0) (both .1) (rest next _ (lies .2) (omega arith)))
 
   -- a field has three bytes at least, so what is left of the file is never cut short
   walk-keeps : (n at : ℕ) (sheet : Sheet) → at ≤ length bytes → length bytes < n + at → P at sheet → Q (walk bytes n at sheet)

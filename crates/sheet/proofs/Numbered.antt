@@ -7,13 +7,17 @@ use lib.Dec.{T}
 use borrow.Author.Tests.{ltb-false, leb-false, eqb-true, not-false}
 use Rattle.sheet.specs.Deciding.{firstBroken}
 use Rattle.sheet.specs.Fields.{lineOf, fields}
+use Rattle.sheet.specs.Judging.{headRules, ownRules, fieldRules}
+use Rattle.sheet.specs.Limits.{headSize, gapSize, modeLimit, rowLimit, taskLimit}
 use Rattle.sheet.specs.Reading.{longAt}
-use Rattle.sheet.specs.Rules.{outOfOrder, wrongLength, wrongRow, unlikeSet, full, followerCount, commonRules, modeRules, rowRules, rowGapRules, taskRules}
+use Rattle.sheet.specs.Rules.{outOfOrder, wrongLength, wrongRow, unlikeSet, full, followerCount, commonRules, textRules, modeRules, rowRules, rowGapRules, taskRules}
+use Rattle.sheet.specs.declared.fields.Kind.{Kind}
+use Rattle.sheet.specs.declared.fields.Kind.the-variants.{RefusedTag, LabelField, ModeField, RowField, TaskField, EndField, SkippedField}
 use Rattle.sheet.specs.declared.values.Mode.{Mode}
 use Rattle.sheet.specs.declared.values.Row.{Row}
 use Rattle.sheet.specs.declared.values.Task.{Task}
 use Rattle.sheet.specs.declared.values.Tally.{Tally}
-use Rattle.sheet.proofs.Deciding.{Kept, numbered, all-kept, neither}
+use Rattle.sheet.proofs.Deciding.{Kept, numbered, all-kept, neither, both-kept, both-numbered}
 
 module _ (tag last count : ℕ) (wrong : Bool) where
   pub common-numbered : T (numbered (commonRules tag last wrong count))
@@ -24,11 +28,6 @@ module _ (tag last count : ℕ) (wrong : Bool) where
   pub common-says : Kept (commonRules tag last wrong count) → (outOfOrder last tag ≡ false) × (wrong ≡ false) × (count < lineOf tag .most)
   unfolding commonRules full
   common-says k = (k .0, k .1 .0, leb-false _ _ (k .1 .1 .0))
-
-  pub common-kept : firstBroken (commonRules tag last wrong count) ≡ 0 → (wrong ≡ false) × (count < lineOf tag .most)
-  common-kept e =
-      let says = common-says (all-kept (commonRules tag last wrong count) common-numbered e) in
-      (says .1, says .2)
 
 pub mode-numbered : (tally : Tally) (mode : Mode) → T (numbered (modeRules tally mode))
 unfolding modeRules
@@ -53,3 +52,55 @@ unfolding wrongRow unlikeSet lineOf fields
 row-length bytes start size e =
     let n = neither _ _ e in
     (long-enough 3 size (n .0), eqb-true _ _ (not-false _ (n .1)))
+
+module _ (bytes : List ℕ) (tally : Tally) (start size : ℕ) where
+  pub head-numbered : (kind : Kind) → T (numbered (headRules bytes tally kind start size))
+  unfolding headRules
+  head-numbered RefusedTag = tt
+  head-numbered LabelField = common-numbered _ _ _ _
+  head-numbered ModeField = common-numbered _ _ _ _
+  head-numbered RowField = common-numbered _ _ _ _
+  head-numbered TaskField = common-numbered _ _ _ _
+  head-numbered EndField = common-numbered _ _ _ _
+  head-numbered SkippedField = tt
+
+  own-numbered : (kind : Kind) → T (numbered (ownRules bytes tally kind start size))
+  unfolding ownRules textRules
+  own-numbered RefusedTag = tt
+  own-numbered LabelField = tt
+  own-numbered ModeField = mode-numbered _ _
+  own-numbered RowField = row-numbered _ _ _
+  own-numbered TaskField = task-numbered _
+  own-numbered EndField = tt
+  own-numbered SkippedField = tt
+
+  pub field-numbered : (kind : Kind) → T (numbered (fieldRules bytes tally kind start size))
+  field-numbered kind = both-numbered (headRules bytes tally kind start size) (ownRules bytes tally kind start size) (head-numbered kind) (own-numbered kind)
+
+  -- of a field that breaks none of its first rules: its content is long enough for its numbers, and there is room for one more
+  pub mode-fits : Kept (headRules bytes tally ModeField start size) → (4 ≤ size) × (tally .modes < modeLimit)
+  unfolding headRules lineOf fields
+  mode-fits k = let says = common-says _ _ _ _ k in (long-enough 2 size (says .1), says .2)
+
+  pub row-fits : Kept (headRules bytes tally RowField start size)
+      → (headSize ≤ size) × (size ≡ headSize + gapSize * followerCount (longAt bytes (start + 4))) × (tally .rows < rowLimit)
+  unfolding headRules lineOf fields
+  row-fits k =
+      let says = common-says _ _ _ _ k in
+      let long = row-length bytes start size (says .1) in
+      (long .0, long .1, says .2)
+
+  pub task-fits : Kept (headRules bytes tally TaskField start size) → (6 ≤ size) × (tally .tasks < taskLimit)
+  unfolding headRules lineOf fields
+  task-fits k = let says = common-says _ _ _ _ k in (long-enough 4 size (says .1), says .2)
+
+  module _ (kind : Kind) where
+    pub head-kept : firstBroken (headRules bytes tally kind start size) ≡ 0 → Kept (headRules bytes tally kind start size)
+    head-kept e = all-kept (headRules bytes tally kind start size) (head-numbered kind) e
+
+    pub field-kept : Kept (fieldRules bytes tally kind start size) → Kept (headRules bytes tally kind start size) × Kept (ownRules bytes tally kind start size)
+    field-kept k = both-kept (headRules bytes tally kind start size) (ownRules bytes tally kind start size) k
+
+    -- where no rule is broken, none of the first is
+    pub first-kept : firstBroken (fieldRules bytes tally kind start size) ≡ 0 → Kept (headRules bytes tally kind start size)
+    first-kept e = field-kept (all-kept (fieldRules bytes tally kind start size) (field-numbered kind) e) .0

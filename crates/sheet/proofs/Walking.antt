@@ -7,16 +7,17 @@ use mathlib.Core.Bool.{Bool, true, false}
 use lib.Dec.{ltb}
 use lib.ListN.{length, getD}
 use borrow.Author.Tests.{ltb-false}
-use Rattle.sheet.specs.Deciding.{pick}
-use Rattle.sheet.specs.Fields.{kindOf, isRefused}
+use Rattle.sheet.specs.Deciding.{pick, firstBroken}
+use Rattle.sheet.specs.Fields.{kindOf, isRefused, isEnd}
 use Rattle.sheet.specs.Reading.{fieldAt, wordAt}
-use Rattle.sheet.specs.Judging.{fieldJudged, onField, walk, refusal}
+use Rattle.sheet.specs.Judging.{fieldRules, withField, checked, endJudged, onField, walk, refusal}
 use Rattle.sheet.specs.declared.fields.Kind.{Kind}
 use Rattle.sheet.specs.declared.reader.Step.{Step}
 use Rattle.sheet.specs.declared.reader.Step.the-variants.{Field, Refusal}
 use Rattle.sheet.specs.declared.values.Sheet.{Sheet}
-use Rattle.sheet.specs.declared.judging.Taken.{Taken}
-use Rattle.sheet.proofs.Deciding.{OfFile}
+use Rattle.sheet.specs.declared.Judged.{Judged}
+use Rattle.sheet.proofs.Deciding.{OfFile, by-broken, by-none}
+use Rattle.sheet.proofs.Numbered.{field-numbered}
 
 apart : (n p a l x : ℕ) (k : Kind) → Refusal n p ≡ Field k a l x → ⊥
 apart n p a l x k e = let z : _≡_ {A = ℕ} 0 1 = cc in omega arith
@@ -66,19 +67,27 @@ module _ (bytes : List ℕ) (at n : ℕ) (sheet : Sheet) (more : 0 < n) where
   unfolding onField
   walk-refused f i p e t = walk-next ∙ ap (onField bytes sheet at (walk bytes (n - 1))) (sym e ∙ t)
 
-  module _ (f : Step) (k : Kind) (a l x : ℕ) (j : Taken) (e : f ≡ fieldAt bytes at) (t : f ≡ Field k a l x) (d : j ≡ fieldJudged bytes sheet k at a l x) where
-    walk-field : walk bytes n at sheet ≡ pick (j .over) (j .judged) (walk bytes (n - 1) x (j .judged .sheet))
+  module _ (f : Step) (k : Kind) (a l x : ℕ) (e : f ≡ fieldAt bytes at) (t : f ≡ Field k a l x) (number : ℕ) (d : number ≡ firstBroken (fieldRules bytes (sheet .tally) k a l)) where
+    abbrev rest : Judged
+    rest = pick (isEnd k) (endJudged bytes sheet at x) (walk bytes (n - 1) x (withField bytes sheet k a l))
+
+    walk-field : walk bytes n at sheet ≡ checked at (fieldRules bytes (sheet .tally) k a l) rest
     unfolding onField
-    walk-field =
-        walk-next ∙ ap (onField bytes sheet at (walk bytes (n - 1))) (sym e ∙ t)
-        ∙ ap (λ v. pick (v .over) (v .judged) (walk bytes (n - 1) x (v .judged .sheet))) (sym d)
+    walk-field = walk-next ∙ ap (onField bytes sheet at (walk bytes (n - 1))) (sym e ∙ t)
 
-    -- a field that ends the walk gives its answer
-    pub walk-over : j .over ≡ true → walk bytes n at sheet ≡ j .judged
-    unfolding pick
-    walk-over o = walk-field ∙ rw o
+    -- a field that breaks a rule is refused
+    pub walk-broken : (number ≡ 0 → ⊥) → walk bytes n at sheet ≡ refusal number at
+    walk-broken some = walk-field ∙ by-broken (λ i. refusal i at) rest _ (λ z. some (d ∙ z)) ∙ ap (λ i. refusal i at) (sym d)
 
-    -- any other leaves it to the rest of the file
-    pub walk-on : j .over ≡ false → walk bytes n at sheet ≡ walk bytes (n - 1) x (j .judged .sheet)
+    walk-kept : number ≡ 0 → walk bytes n at sheet ≡ rest
+    walk-kept z = walk-field ∙ by-none (λ i. refusal i at) rest _ (field-numbered bytes (sheet .tally) a l k) (sym d ∙ z)
+
+    -- the end field ends the walk
+    pub walk-end : number ≡ 0 → isEnd k ≡ true → walk bytes n at sheet ≡ endJudged bytes sheet at x
     unfolding pick
-    walk-on o = walk-field ∙ rw o
+    walk-end z o = walk-kept z ∙ rw o
+
+    -- any other adds to the sheet, and leaves it to the rest of the file
+    pub walk-on : number ≡ 0 → isEnd k ≡ false → walk bytes n at sheet ≡ walk bytes (n - 1) x (withField bytes sheet k a l)
+    unfolding pick
+    walk-on z o = walk-kept z ∙ rw o

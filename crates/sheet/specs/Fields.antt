@@ -46,3 +46,12 @@ isRefused RowField = false
 isRefused TaskField = false
 isRefused EndField = false
 isRefused SkippedField = false
+
+abbrev pub isEnd : Kind → Bool
+isEnd RefusedTag = false
+isEnd LabelField = false
+isEnd ModeField = false
+isEnd RowField = false
+isEnd TaskField = false
+isEnd EndField = true
+isEnd SkippedField = false

@@ -1,22 +1,23 @@
--- The judge: how a field of each kind is judged, and the walk over the fields in file order.
+-- The judge: the rules of a field of each kind, what a field adds to the sheet, and the walk over the fields in file order.
 use Prim.Native.Nat.{ℕ, zero, suc, _+_}
-use mathlib.Core.List.{List, [], _∷_}
-use mathlib.Core.Bool.{true, false}
+use mathlib.Core.List.{List, [], _∷_, _++_}
+use mathlib.Core.Bool.{true}
 use lib.ListN.{length, take, drop}
 use lib.Dec.{ltb}
 use Rattle.sheet.specs.Deciding.{Rule, _when_, pick, judgedBy}
+use Rattle.sheet.specs.Fields.{isEnd}
 use Rattle.sheet.specs.Reading.{fieldAt, modeAt, rowAt, taskAt}
 use Rattle.sheet.specs.Values.{emptySheet, withLabel, withMode, withRow, withTask}
-use Rattle.sheet.specs.Rules.{outOfOrder, wrongLength, wrongRow, badText, unknownFollower, commonRules, modeRules, rowGapRules, taskRules}
+use Rattle.sheet.specs.Rules.{wrongLength, wrongRow, unknownFollower, commonRules, textRules, modeRules, rowGapRules, taskRules}
 use Rattle.sheet.specs.declared.fields.Kind.{Kind}
 use Rattle.sheet.specs.declared.fields.Kind.the-variants.{RefusedTag, LabelField, ModeField, RowField, TaskField, EndField, SkippedField}
 use Rattle.sheet.specs.declared.reader.Step.{Step}
 use Rattle.sheet.specs.declared.reader.Step.the-variants.{Field, Refusal}
 use Rattle.sheet.specs.declared.values.Sheet.{Sheet}
+use Rattle.sheet.specs.declared.values.Tally.{Tally}
 use Rattle.sheet.specs.declared.Answer.{Answer}
 use Rattle.sheet.specs.declared.Answer.the-variants.{Accepted, Refused}
 use Rattle.sheet.specs.declared.Judged.{Judged}
-use Rattle.sheet.specs.declared.judging.Taken.{Taken}
 
 -- document 01's number of an answer, 0 where the sheet is accepted
 abbrev pub numberOf : Answer → ℕ
@@ -32,72 +33,56 @@ placeOf (Refused number place) = place
 unfoldable pub refusal : ℕ → ℕ → Judged
 refusal number place = record { answer = Refused number place; sheet = emptySheet }
 
--- a field that is refused
-unfoldable pub refusedAt : ℕ → ℕ → Taken
-refusedAt number place = record { over = true; judged = refusal number place }
+-- the first rules of a field of each kind: its tag, its place in the order, its length, its count
+unfoldable pub headRules : List ℕ → Tally → Kind → ℕ → ℕ → List Rule
+headRules bytes tally RefusedTag start size = 2 when true ∷ []
+headRules bytes tally LabelField start size = commonRules 1 (tally .last) (wrongLength 1 size) 0
+headRules bytes tally ModeField start size = commonRules 2 (tally .last) (wrongLength 2 size) (tally .modes)
+headRules bytes tally RowField start size = commonRules 3 (tally .last) (wrongRow bytes start size) (tally .rows)
+headRules bytes tally TaskField start size = commonRules 4 (tally .last) (wrongLength 4 size) (tally .tasks)
+headRules bytes tally EndField start size = commonRules 5 (tally .last) (wrongLength 5 size) 0
+headRules bytes tally SkippedField start size = []
 
--- a field that is taken, after which the file goes on
-unfoldable pub goesOn : Sheet → Taken
-goesOn sheet = record { over = false; judged = record { answer = Accepted; sheet = sheet } }
+-- then those of its bytes and numbers
+unfoldable pub ownRules : List ℕ → Tally → Kind → ℕ → ℕ → List Rule
+ownRules bytes tally RefusedTag start size = []
+ownRules bytes tally LabelField start size = textRules bytes start size
+ownRules bytes tally ModeField start size = modeRules tally (modeAt bytes start)
+ownRules bytes tally RowField start size = rowGapRules bytes tally (rowAt bytes start)
+ownRules bytes tally TaskField start size = taskRules (taskAt bytes start)
+ownRules bytes tally EndField start size = []
+ownRules bytes tally SkippedField start size = []
 
--- the end field of an accepted sheet
-unfoldable pub acceptedAs : Sheet → Taken
-acceptedAs sheet = record { over = true; judged = record { answer = Accepted; sheet = sheet } }
+abbrev pub fieldRules : List ℕ → Tally → Kind → ℕ → ℕ → List Rule
+fieldRules bytes tally kind start size = headRules bytes tally kind start size ++ ownRules bytes tally kind start size
 
--- a field refused at a place by the first broken rule, or what is made of it where none is broken
-unfoldable pub checked : ℕ → List Rule → Taken → Taken
-checked place rules ok = judgedBy (λ n. refusedAt n place) rules ok
+-- the sheet with what a field adds to it
+unfoldable pub withField : List ℕ → Sheet → Kind → ℕ → ℕ → Sheet
+withField bytes sheet RefusedTag start size = sheet
+withField bytes sheet LabelField start size = withLabel sheet start size
+withField bytes sheet ModeField start size = withMode sheet (modeAt bytes start)
+withField bytes sheet RowField start size = withRow sheet (rowAt bytes start)
+withField bytes sheet TaskField start size = withTask sheet (taskAt bytes start)
+withField bytes sheet EndField start size = sheet
+withField bytes sheet SkippedField start size = sheet
 
-unfoldable pub labelJudged : List ℕ → Sheet → ℕ → ℕ → ℕ → Taken
-labelJudged bytes sheet at start size =
-    checked at (commonRules 1 (sheet .tally .last) (wrongLength 1 size) 0)
-    (checked at (7 when (badText bytes start size) ∷ [])
-    (goesOn (withLabel sheet start size)))
+-- refused at a place by the first broken rule, or `ok` where none is broken
+abbrev pub checked : ℕ → List Rule → Judged → Judged
+checked place rules ok = judgedBy (λ n. refusal n place) rules ok
 
-unfoldable pub modeJudged : List ℕ → Sheet → ℕ → ℕ → ℕ → Taken
-modeJudged bytes sheet at start size =
-    checked at (commonRules 2 (sheet .tally .last) (wrongLength 2 size) (sheet .tally .modes))
-    (checked at (modeRules (sheet .tally) (modeAt bytes start))
-    (goesOn (withMode sheet (modeAt bytes start))))
+-- the end of a sheet whose end field keeps these rules: 9 at the field, then 4 at the first byte after it
+unfoldable pub endJudged : List ℕ → Sheet → ℕ → ℕ → Judged
+endJudged bytes sheet at next =
+    checked at (9 when (unknownFollower (sheet .rows) (sheet .tally .rows)) ∷ [])
+    (checked next (4 when (ltb next (length bytes)) ∷ [])
+    (record { answer = Accepted; sheet = sheet }))
 
-unfoldable pub rowJudged : List ℕ → Sheet → ℕ → ℕ → ℕ → Taken
-rowJudged bytes sheet at start size =
-    checked at (commonRules 3 (sheet .tally .last) (wrongRow bytes start size) (sheet .tally .rows))
-    (checked at (rowGapRules bytes (sheet .tally) (rowAt bytes start))
-    (goesOn (withRow sheet (rowAt bytes start))))
-
-unfoldable pub taskJudged : List ℕ → Sheet → ℕ → ℕ → ℕ → Taken
-taskJudged bytes sheet at start size =
-    checked at (commonRules 4 (sheet .tally .last) (wrongLength 4 size) (sheet .tally .tasks))
-    (checked at (taskRules (taskAt bytes start))
-    (goesOn (withTask sheet (taskAt bytes start))))
-
--- the end: 3, 5 and 9 at the field, then 4 at the first byte after it
-unfoldable pub endJudged : List ℕ → Sheet → ℕ → ℕ → ℕ → Taken
-endJudged bytes sheet at size next =
-    checked at
-    (3 when (outOfOrder (sheet .tally .last) 5)
-    ∷ 5 when (wrongLength 5 size)
-    ∷ 9 when (unknownFollower (sheet .rows) (sheet .tally .rows))
-    ∷ [])
-    (checked next (4 when (ltb next (length bytes)) ∷ []) (acceptedAs sheet))
-
--- a field by its kind: it starts at `at`, its content at `start`, the next field at `next`
-unfoldable pub fieldJudged : List ℕ → Sheet → Kind → ℕ → ℕ → ℕ → ℕ → Taken
-fieldJudged bytes sheet RefusedTag at start size next = refusedAt 2 at
-fieldJudged bytes sheet LabelField at start size next = labelJudged bytes sheet at start size
-fieldJudged bytes sheet ModeField at start size next = modeJudged bytes sheet at start size
-fieldJudged bytes sheet RowField at start size next = rowJudged bytes sheet at start size
-fieldJudged bytes sheet TaskField at start size next = taskJudged bytes sheet at start size
-fieldJudged bytes sheet EndField at start size next = endJudged bytes sheet at size next
-fieldJudged bytes sheet SkippedField at start size next = goesOn sheet
-
--- one field, and the rest of the file by `go` unless it is judged
+-- one field, which starts at `at`, its content at `start`, the next field at `next`, and the rest of the file by `go`
 unfoldable pub onField : List ℕ → Sheet → ℕ → (ℕ → Sheet → Judged) → Step → Judged
 onField bytes sheet at go (Refusal number place) = refusal number place
 onField bytes sheet at go (Field kind start size next) =
-    let taken : Taken = fieldJudged bytes sheet kind at start size next in
-    pick (taken .over) (taken .judged) (go next (taken .judged .sheet))
+    checked at (fieldRules bytes (sheet .tally) kind start size)
+    (pick (isEnd kind) (endJudged bytes sheet at next) (go next (withField bytes sheet kind start size)))
 
 -- at most n fields from a place on
 unfoldable pub walk : List ℕ → ℕ → ℕ → Sheet → Judged

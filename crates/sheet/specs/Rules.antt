@@ -87,6 +87,10 @@ commonRules tag last wrong count =
     ∷ 6 when (full tag count)
     ∷ []
 
+-- the rule of a label's bytes
+unfoldable pub textRules : List ℕ → ℕ → ℕ → List Rule
+textRules bytes start size = 7 when (badText bytes start size) ∷ []
+
 -- the rules of a mode's numbers
 unfoldable pub modeRules : Tally → Mode → List Rule
 modeRules tally mode =

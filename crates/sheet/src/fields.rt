@@ -1,7 +1,7 @@
 // The field table, and what kind of field a tag says.
 use crate::values::Sheet;
 ghost use mathlib.Core.Path.{_≡_};
-ghost use Rattle.sheet.specs.Fields.{kindOf, isRefused, noLine, lineOf};
+ghost use Rattle.sheet.specs.Fields.{kindOf, isRefused, isEnd, noLine, lineOf};
 
 // A line of the field table: shortest and longest content in bytes, how many such fields a sheet may have, and whether one is required.
 pub struct Line {
@@ -106,6 +106,20 @@ pub(crate) fn refused_tag(tag: u8) -> bool
         Kind::RowField => false,
         Kind::TaskField => false,
         Kind::EndField => false,
+        Kind::SkippedField => false,
+    }
+}
+
+pub(crate) fn is_end(kind: Kind) -> bool
+    ensures { λ r. ⌜ r ≡ isEnd kind ⌝ }
+{
+    match kind {
+        Kind::RefusedTag => false,
+        Kind::LabelField => false,
+        Kind::ModeField => false,
+        Kind::RowField => false,
+        Kind::TaskField => false,
+        Kind::EndField => true,
         Kind::SkippedField => false,
     }
 }

@@ -1,4 +1,4 @@
-// How each kind of field is judged, and what it makes of the sheet.
+// The rules of each kind of field on the file's bytes, and what a field adds to the sheet.
 use crate::Answer;
 use crate::Judged;
 use crate::fields::Kind;
@@ -7,7 +7,6 @@ use crate::reader::word_at;
 use crate::rules::bad_byte;
 use crate::rules::common_number;
 use crate::rules::mode_number;
-use crate::rules::out_of_order;
 use crate::rules::row_number;
 use crate::rules::task_number;
 use crate::rules::unknown_in;
@@ -28,141 +27,82 @@ ghost use lib.ListN.{length};
 ghost use Rattle.sheet.specs.Deciding.{firstBroken};
 ghost use Rattle.sheet.specs.Limits.{modeLimit, rowLimit, taskLimit, headSize, gapSize};
 ghost use Rattle.sheet.specs.Reading.{modeAt, rowAt, taskAt};
-ghost use Rattle.sheet.specs.Rules.{followerCount, badText, gapShorter, wrongRow, unknownFollower, rowGapRules};
+ghost use Rattle.sheet.specs.Rules.{followerCount, badText, gapShorter, wrongRow, unknownFollower, textRules, rowGapRules};
 ghost use Rattle.sheet.specs.Values.{withLabel, withMode, withRow, withTask};
-ghost use Rattle.sheet.specs.Judging.{refusal, refusedAt, goesOn, acceptedAs, labelJudged, modeJudged, rowJudged, taskJudged, endJudged, fieldJudged};
+ghost use Rattle.sheet.specs.Judging.{refusal, headRules, ownRules, fieldRules, withField, endJudged};
 
-// What a field makes of the sheet: whether the file is judged with it, and how the sheet stands.
-pub struct Taken {
-    pub over: bool,
-    pub judged: Judged,
+// The number of the first rule that a field breaks by itself, 0 where it breaks none.
+pub(crate) fn field_number(bytes: &[u8], tally: Tally, kind: Kind, start: usize, size: usize) -> u8
+    requires { ⌜ start + size ≤ length (now bytes) ⌝ }
+    ensures { λ r. ⌜ r ≡ firstBroken (fieldRules (now (bytes .entry)) tally kind start size) ⌝ }
+{
+    let number = head_number(bytes, tally, kind, start, size);
+    if number != 0 {
+        return number;
+    }
+    own_number(bytes, tally, kind, start, size)
 }
 
-// A field by its kind: it starts at `at`, its content at `start`, the next field at `next`.
-pub(crate) fn judge_field(
-    bytes: &[u8],
-    sheet: Sheet,
-    kind: Kind,
-    at: usize,
-    start: usize,
-    size: usize,
-    next: usize,
-) -> Taken
+// The first rules of a field: its tag, its place in the order, its length, its count.
+fn head_number(bytes: &[u8], tally: Tally, kind: Kind, start: usize, size: usize) -> u8
     requires { ⌜ start + size ≤ length (now bytes) ⌝ }
-    ensures { λ r. ⌜ r ≡ fieldJudged (now (bytes .entry)) sheet kind at start size next ⌝ }
+    ensures { λ r. ⌜ r ≡ firstBroken (headRules (now (bytes .entry)) tally kind start size) ⌝ }
 {
     match kind {
-        Kind::RefusedTag => refused_at(2, at),
-        Kind::LabelField => judge_label(bytes, sheet, at, start, size),
-        Kind::ModeField => judge_mode(bytes, sheet, at, start, size),
-        Kind::RowField => judge_row(bytes, sheet, at, start, size),
-        Kind::TaskField => judge_task(bytes, sheet, at, start, size),
-        Kind::EndField => judge_end(bytes, sheet, at, size, next),
-        Kind::SkippedField => goes_on(sheet),
+        Kind::RefusedTag => 2,
+        Kind::LabelField => common_number(1, tally.last, wrong_length(1, size), 0),
+        Kind::ModeField => common_number(2, tally.last, wrong_length(2, size), tally.modes),
+        Kind::RowField => common_number(3, tally.last, wrong_row(bytes, start, size), tally.rows),
+        Kind::TaskField => common_number(4, tally.last, wrong_length(4, size), tally.tasks),
+        Kind::EndField => common_number(5, tally.last, wrong_length(5, size), 0),
+        Kind::SkippedField => 0,
     }
 }
 
-fn judge_label(bytes: &[u8], sheet: Sheet, at: usize, start: usize, size: usize) -> Taken
+// The rules of its bytes and numbers, which a field that keeps the first ones has.
+fn own_number(bytes: &[u8], tally: Tally, kind: Kind, start: usize, size: usize) -> u8
     requires { ⌜ start + size ≤ length (now bytes) ⌝ }
-    ensures { λ r. ⌜ r ≡ labelJudged (now (bytes .entry)) sheet at start size ⌝ }
+    requires { ⌜ firstBroken (headRules (now bytes) tally kind start size) ≡ 0 ⌝ }
+    ensures { λ r. ⌜ r ≡ firstBroken (ownRules (now (bytes .entry)) tally kind start size) ⌝ }
 {
-    let tally = sheet.tally;
-    let wrong = wrong_length(1, size);
-    let number = common_number(1, tally.last, wrong, 0);
-    if number != 0 {
-        return refused_at(number, at);
+    match kind {
+        Kind::RefusedTag => 0,
+        Kind::LabelField => text_number(bytes, start, size),
+        Kind::ModeField => mode_number(tally, mode_at(bytes, start)),
+        Kind::RowField => row_gap_number(bytes, tally, row_at(bytes, start)),
+        Kind::TaskField => task_number(task_at(bytes, start)),
+        Kind::EndField => 0,
+        Kind::SkippedField => 0,
     }
+}
+
+// The rule of a label's bytes.
+fn text_number(bytes: &[u8], start: usize, size: usize) -> u8
+    requires { ⌜ start + size ≤ length (now bytes) ⌝ }
+    ensures { λ r. ⌜ r ≡ firstBroken (textRules (now (bytes .entry)) start size) ⌝ }
+{
     if bad_text(bytes, start, size) {
-        return refused_at(7, at);
+        return 7;
     }
-    let grown = with_label(sheet, start, size);
-    goes_on(grown)
+    0
 }
 
-fn judge_mode(bytes: &[u8], sheet: Sheet, at: usize, start: usize, size: usize) -> Taken
-    requires { ⌜ start + size ≤ length (now bytes) ⌝ }
-    ensures { λ r. ⌜ r ≡ modeJudged (now (bytes .entry)) sheet at start size ⌝ }
+// The end of the sheet, where the end field at `at` breaks no rule by itself and the next field would start at `next`.
+pub(crate) fn judge_end(bytes: &[u8], sheet: Sheet, at: usize, next: usize) -> Judged
+    ensures { λ r. ⌜ r ≡ endJudged (now (bytes .entry)) sheet at next ⌝ }
 {
     let tally = sheet.tally;
-    let wrong = wrong_length(2, size);
-    let number = common_number(2, tally.last, wrong, tally.modes);
-    if number != 0 {
-        return refused_at(number, at);
-    }
-    let mode = mode_at(bytes, start);
-    let own = mode_number(tally, mode);
-    if own != 0 {
-        return refused_at(own, at);
-    }
-    let grown = with_mode(sheet, mode);
-    goes_on(grown)
-}
-
-fn judge_row(bytes: &[u8], sheet: Sheet, at: usize, start: usize, size: usize) -> Taken
-    requires { ⌜ start + size ≤ length (now bytes) ⌝ }
-    ensures { λ r. ⌜ r ≡ rowJudged (now (bytes .entry)) sheet at start size ⌝ }
-{
-    let tally = sheet.tally;
-    let wrong = wrong_row(bytes, start, size);
-    let number = common_number(3, tally.last, wrong, tally.rows);
-    if number != 0 {
-        return refused_at(number, at);
-    }
-    let row = row_at(bytes, start);
-    let own = row_gap_number(bytes, tally, row);
-    if own != 0 {
-        return refused_at(own, at);
-    }
-    let grown = with_row(sheet, row);
-    goes_on(grown)
-}
-
-fn judge_task(bytes: &[u8], sheet: Sheet, at: usize, start: usize, size: usize) -> Taken
-    requires { ⌜ start + size ≤ length (now bytes) ⌝ }
-    ensures { λ r. ⌜ r ≡ taskJudged (now (bytes .entry)) sheet at start size ⌝ }
-{
-    let tally = sheet.tally;
-    let wrong = wrong_length(4, size);
-    let number = common_number(4, tally.last, wrong, tally.tasks);
-    if number != 0 {
-        return refused_at(number, at);
-    }
-    let task = task_at(bytes, start);
-    let own = task_number(task);
-    if own != 0 {
-        return refused_at(own, at);
-    }
-    let grown = with_task(sheet, task);
-    goes_on(grown)
-}
-
-fn judge_end(bytes: &[u8], sheet: Sheet, at: usize, size: usize, next: usize) -> Taken
-    ensures { λ r. ⌜ r ≡ endJudged (now (bytes .entry)) sheet at size next ⌝ }
-{
-    let tally = sheet.tally;
-    if out_of_order(tally.last, 5) {
-        return refused_at(3, at);
-    }
-    if wrong_length(5, size) {
-        return refused_at(5, at);
-    }
     let rows = sheet.rows;
     if unknown_follower(rows, tally.rows) {
-        return refused_at(9, at);
+        return refused(9, at);
     }
     if next < bytes.len() {
-        return refused_at(4, next);
+        return refused(4, next);
     }
-    accepted_as(sheet)
-}
-
-fn refused_at(number: u8, place: usize) -> Taken
-    ensures { λ r. ⌜ r ≡ refusedAt number place ⌝ }
-{
-    let judged = refused(number, place);
-    Taken {
-        over: true,
-        judged: judged,
+    let answer = Answer::Accepted;
+    Judged {
+        answer: answer,
+        sheet: sheet,
     }
 }
 
@@ -180,31 +120,20 @@ pub(crate) fn refused(number: u8, place: usize) -> Judged
     }
 }
 
-fn goes_on(sheet: Sheet) -> Taken
-    ensures { λ r. ⌜ r ≡ goesOn sheet ⌝ }
+// The sheet with what a field adds to it that breaks no rule.
+pub(crate) fn with_field(bytes: &[u8], sheet: Sheet, kind: Kind, start: usize, size: usize) -> Sheet
+    requires { ⌜ start + size ≤ length (now bytes) ⌝ }
+    requires { ⌜ firstBroken (fieldRules (now bytes) (sheet .tally) kind start size) ≡ 0 ⌝ }
+    ensures { λ r. ⌜ r ≡ withField (now (bytes .entry)) sheet kind start size ⌝ }
 {
-    let so_far = Answer::Accepted;
-    let judged = Judged {
-        answer: so_far,
-        sheet: sheet,
-    };
-    Taken {
-        over: false,
-        judged: judged,
-    }
-}
-
-fn accepted_as(sheet: Sheet) -> Taken
-    ensures { λ r. ⌜ r ≡ acceptedAs sheet ⌝ }
-{
-    let answer = Answer::Accepted;
-    let judged = Judged {
-        answer: answer,
-        sheet: sheet,
-    };
-    Taken {
-        over: true,
-        judged: judged,
+    match kind {
+        Kind::RefusedTag => sheet,
+        Kind::LabelField => with_label(sheet, start, size),
+        Kind::ModeField => with_mode(sheet, mode_at(bytes, start)),
+        Kind::RowField => with_row(sheet, row_at(bytes, start)),
+        Kind::TaskField => with_task(sheet, task_at(bytes, start)),
+        Kind::EndField => sheet,
+        Kind::SkippedField => sheet,
     }
 }
 

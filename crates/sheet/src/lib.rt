@@ -7,8 +7,11 @@ pub mod rules;
 pub mod units;
 pub mod values;
 
-use judging::judge_field;
+use fields::is_end;
+use judging::field_number;
+use judging::judge_end;
 use judging::refused;
+use judging::with_field;
 use reader::Step;
 use reader::field_at;
 use values::Sheet;
@@ -43,12 +46,14 @@ pub fn judge(bytes: &[u8]) -> Judged
                 size,
                 next,
             } => {
-                let taken = judge_field(bytes, sheet, kind, at, start, size, next);
-                let stands = taken.judged;
-                if taken.over {
-                    return stands;
+                let number = field_number(bytes, sheet.tally, kind, start, size);
+                if number != 0 {
+                    return refused(number, at);
                 }
-                let grown = stands.sheet;
+                if is_end(kind) {
+                    return judge_end(bytes, sheet, at, next);
+                }
+                let grown = with_field(bytes, sheet, kind, start, size);
                 sheet = grown;
                 at = next;
             }

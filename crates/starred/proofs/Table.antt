@@ -20,8 +20,8 @@ use Rattle.sheet.specs.Deciding.{pick, anyFrom, firstBroken}
 use Rattle.sheet.specs.Fields.{lineOf, fields}
 use Rattle.sheet.specs.Reading.{fieldAt}
 use Rattle.sheet.specs.Values.{emptySheet, jobLength}
-use Rattle.sheet.specs.Rules.{outOfOrder, wrongLength, unlikeSet, wrongRow, full, badByte, badText, badRpm, gapShorter, unknownIn, unknownFollower, commonRules, modeRules, rowRules, rowGapRules, taskRules}
-use Rattle.sheet.specs.Judging.{refusal, refusedAt, goesOn, acceptedAs, checked, labelJudged, modeJudged, rowJudged, taskJudged, endJudged, fieldJudged, onField, walk, judged}
+use Rattle.sheet.specs.Rules.{outOfOrder, wrongLength, unlikeSet, wrongRow, full, badByte, badText, badRpm, gapShorter, unknownIn, unknownFollower, commonRules, textRules, modeRules, rowRules, rowGapRules, taskRules}
+use Rattle.sheet.specs.Judging.{refusal, headRules, ownRules, withField, endJudged, onField, walk, judged}
 use Rattle.sheet.specs.Meaning.{graphOf, eachTask, tasksOf}
 use Rattle.sheet.specs.Proper.{Bytes}
 use Rattle.sheet.specs.declared.Answer.{Answer}
@@ -168,5 +168,5 @@ all (c ∷ table) t =
     (law c (parts .0), all table (parts .1))
 
 pub starred : All cases
-unfolding cases stepAt bestWithin best leastAt leastWithin least demandOf shortestOf restWithin witnessOf marginOf fixedOf fixedSum pick anyFrom firstBroken lineOf fields fieldAt emptySheet jobLength outOfOrder wrongLength unlikeSet wrongRow full badByte badText badRpm gapShorter unknownIn unknownFollower commonRules modeRules rowRules rowGapRules taskRules refusal refusedAt goesOn acceptedAs checked labelJudged modeJudged rowJudged taskJudged endJudged fieldJudged onField walk judged graphOf eachTask tasksOf below nextIn
+unfolding cases stepAt bestWithin best leastAt leastWithin least demandOf shortestOf restWithin witnessOf marginOf fixedOf fixedSum pick anyFrom firstBroken lineOf fields fieldAt emptySheet jobLength outOfOrder wrongLength unlikeSet wrongRow full badByte badText badRpm gapShorter unknownIn unknownFollower commonRules textRules modeRules rowRules rowGapRules taskRules refusal headRules ownRules withField endJudged onField walk judged graphOf eachTask tasksOf below nextIn
 starred = all cases tt

@@ -1,6 +1,6 @@
 -- `judge` meets its contract. The loop walks as the definition does: what is left of the file, from where it stands and with the sheet so far, decides as the whole file does.
 use Prim.Native.Nat.{ℕ, _+_, _-_, _≤_, _<_}
-use Rattle.sheet.proofs.Walking.{field-in, walk-refused, walk-over, walk-on}
+use Rattle.sheet.proofs.Walking.{field-in, walk-refused, walk-broken, walk-end, walk-on}
 use Rattle.sheet.proofs.judge.Statement.{statement}
 use Rattle.sheet.specs.Judging.{judged, walk}
 use borrow.Author.Needs.{needs}
@@ -48,26 +48,46 @@ returns c =
 enum-known-step-2 : tie.Need-enum-known-step-2 Inv-loop μ-loop
 enum-known-step-2 c = search needs
 
-judge-field-requires : tie.Need-judge-field-requires Inv-loop μ-loop
-judge-field-requires c κs = omega (arith, lies c)
+field-number-requires : tie.Need-field-number-requires Inv-loop μ-loop
+field-number-requires c κs = omega (arith, lies c)
+
+refused-requires-2 : tie.Need-refused-requires-2 Inv-loop μ-loop
+refused-requires-2 c κs = search needs
 
 returns-2 : tie.Need-returns-2 Inv-loop μ-loop
 returns-2 c =
     let d = c .before .before .before in
     let l = d .before .before .before .before .loop .inv in
-    sym (l .3 ∙ walk-over _ _ _ _ (omega arith) _ _ _ _ _ _ (d .before .before .before .field-at .ensures) (d .before .step2 .given .1) (c .before .before .judge-field .ensures) (c .if1 .taken))
+    c .refused2 .ensures ∙ sym (l .3 ∙ walk-broken _ _ _ _ (omega arith) _ _ _ _ _ (d .before .before .before .field-at .ensures) (d .before .step2 .given .1) _ (c .before .before .field-number .ensures) (c .before .if1 .taken))
+
+is-end-requires : tie.Need-is-end-requires Inv-loop μ-loop
+is-end-requires c κs = search needs
+
+judge-end-requires : tie.Need-judge-end-requires Inv-loop μ-loop
+judge-end-requires c κs = search needs
+
+returns-3 : tie.Need-returns-3 Inv-loop μ-loop
+returns-3 c =
+    let d = c .before .before .before .before .before in
+    let l = d .before .before .before .before .loop .inv in
+    let last = sym (c .before .before .is-end .ensures) ∙ c .before .if2 .taken in
+    c .judge-end .ensures ∙ sym (l .3 ∙ walk-end _ _ _ _ (omega arith) _ _ _ _ _ (d .before .before .before .field-at .ensures) (d .before .step2 .given .1) _ (c .before .before .before .before .field-number .ensures) (c .before .before .before .if1 .left) last)
+
+with-field-requires : tie.Need-with-field-requires Inv-loop μ-loop
+with-field-requires c κs = (omega (arith, lies (c .before .before .before .before)), sym (c .before .before .before .field-number .ensures) ∙ c .before .before .if1 .left)
 
 loop-less : tie.Need-loop-less Inv-loop μ-loop
-loop-less c = omega (arith, lies (c .before .before .before .before))
+loop-less c = omega (arith, lies (c .before .before .before .before .before))
 
 loop-again : tie.Need-loop-again Inv-loop μ-loop
 loop-again c =
-    let d = c .before .before .before .before in
-    let l = d .before .before .before .before .loop .inv in (
+    let d = c .before .before .before .before .before in
+    let l = d .before .before .before .before .loop .inv in
+    let not-last = sym (c .before .before .is-end .ensures) ∙ c .before .if2 .left in (
       l .0 - 1,
       lies d .2,
       omega (arith, lies d),
-      l .3 ∙ walk-on _ _ _ _ (omega arith) _ _ _ _ _ _ (d .before .before .before .field-at .ensures) (d .before .step2 .given .1) (c .before .before .before .judge-field .ensures) (c .before .if1 .left),
+      rw (c .with-field .ensures) (l .3 ∙ walk-on _ _ _ _ (omega arith) _ _ _ _ _ (d .before .before .before .field-at .ensures) (d .before .step2 .given .1) _ (c .before .before .before .before .field-number .ensures) (c .before .before .before .if1 .left) not-last),
     )
 
 pub judge-spec : {M : Type 1} → statement M
@@ -83,7 +103,12 @@ judge-spec =
     refused-requires
     returns
     enum-known-step-2
-    judge-field-requires
+    field-number-requires
+    refused-requires-2
     returns-2
+    is-end-requires
+    judge-end-requires
+    returns-3
+    with-field-requires
     loop-less
     loop-again)

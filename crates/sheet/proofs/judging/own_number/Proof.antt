@@ -1,0 +1,117 @@
+-- `own_number` meets its contract: each arm has the rules of its kind.
+use Prim.Native.Nat.{_+_, _*_, _≤_, _<_}
+use Rattle.sheet.proofs.Numbered.{head-kept, mode-fits, row-fits, task-fits}
+use Rattle.sheet.proofs.judging.own_number.Statement.{statement}
+use Rattle.sheet.specs.Deciding.{firstBroken}
+use Rattle.sheet.specs.Judging.{ownRules}
+use Rattle.sheet.specs.Limits.{rowLimit, headSize, gapSize}
+use Rattle.sheet.specs.Reading.{longAt}
+use Rattle.sheet.specs.Rules.{followerCount}
+use Rattle.sheet.specs.declared.fields.Kind.the-variants.{ModeField, RowField, TaskField}
+use borrow.Author.Needs.{needs}
+use denote.Ref.{now}
+use mathlib.Core.Path.{_≡_, refl}
+use native.Mathlib.Omega.{arith}
+use Rattle.sheet.proofs.judging.own_number.Tie as tie
+
+-- a row that keeps the first rules has its head and all its gaps
+row : (c : tie.After-enum-told4) →
+    let a = c .before .before .before .args in
+    (headSize ≤ a .size) × (a .size ≡ headSize + gapSize * followerCount (longAt (now (a .bytes)) (a .start + 4))) × (a .tally .rows < rowLimit)
+row c = row-fits _ _ _ _ (head-kept _ _ _ _ RowField (rw (c .enum-told4 .given .1) at (c .before .before .before .pre .1)))
+
+enum-told : tie.Need-enum-told
+enum-told c = search needs
+
+enum-told-2 : tie.Need-enum-told-2
+enum-told-2 c = search needs
+
+text-number-requires : tie.Need-text-number-requires
+text-number-requires c κs = search needs
+
+enum-told-3 : tie.Need-enum-told-3
+enum-told-3 c = search needs
+
+mode-at-requires : tie.Need-mode-at-requires
+mode-at-requires c κs = omega (arith, mode-fits _ _ _ _ (head-kept _ _ _ _ ModeField (rw (c .enum-told3 .given .1) at (c .before .before .before .pre .1))))
+
+mode-number-requires : tie.Need-mode-number-requires
+mode-number-requires c κs = search needs
+
+enum-told-4 : tie.Need-enum-told-4
+enum-told-4 c = search needs
+
+row-at-requires : tie.Need-row-at-requires
+row-at-requires c κs = omega (arith, row c)
+
+row-gap-number-requires : tie.Need-row-gap-number-requires
+row-gap-number-requires c κs = rw (c .row-at .ensures) (omega (arith, row (c .before)))
+
+enum-told-5 : tie.Need-enum-told-5
+enum-told-5 c = search needs
+
+task-at-requires : tie.Need-task-at-requires
+task-at-requires c κs = omega (arith, task-fits _ _ _ _ (head-kept _ _ _ _ TaskField (rw (c .enum-told5 .given .1) at (c .before .before .before .pre .1))))
+
+task-number-requires : tie.Need-task-number-requires
+task-number-requires c κs = search needs
+
+enum-told-6 : tie.Need-enum-told-6
+enum-told-6 c = search needs
+
+enum-told-7 : tie.Need-enum-told-7
+enum-told-7 c = search needs
+
+returns : tie.Need-returns
+unfolding ownRules firstBroken
+returns c = rw (c .enum-told .given .1) refl
+
+returns-2 : tie.Need-returns-2
+unfolding ownRules
+returns-2 c = rw (c .before .enum-told2 .given .1) (c .text-number .ensures)
+
+returns-3 : tie.Need-returns-3
+unfolding ownRules
+returns-3 c = rw (c .before .before .enum-told3 .given .1, ← c .before .mode-at .ensures) (c .mode-number .ensures)
+
+returns-4 : tie.Need-returns-4
+unfolding ownRules
+returns-4 c = rw (c .before .before .enum-told4 .given .1, ← c .before .row-at .ensures) (c .row-gap-number .ensures)
+
+returns-5 : tie.Need-returns-5
+unfolding ownRules
+returns-5 c = rw (c .before .before .enum-told5 .given .1, ← c .before .task-at .ensures) (c .task-number .ensures)
+
+returns-6 : tie.Need-returns-6
+unfolding ownRules firstBroken
+returns-6 c = rw (c .enum-told6 .given .1) refl
+
+returns-7 : tie.Need-returns-7
+unfolding ownRules firstBroken
+returns-7 c = rw (c .enum-told7 .given .1) refl
+
+pub own-number-spec : {M : Type 1} → statement M
+own-number-spec =
+    tie.close
+    (tie.spec
+    enum-told
+    enum-told-2
+    text-number-requires
+    enum-told-3
+    mode-at-requires
+    mode-number-requires
+    enum-told-4
+    row-at-requires
+    row-gap-number-requires
+    enum-told-5
+    task-at-requires
+    task-number-requires
+    enum-told-6
+    enum-told-7
+    returns
+    returns-2
+    returns-3
+    returns-4
+    returns-5
+    returns-6
+    returns-7)

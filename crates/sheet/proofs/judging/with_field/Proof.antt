@@ -1,0 +1,127 @@
+-- `with_field` meets its contract: each arm adds what its kind adds.
+use Prim.Native.Nat.{_+_, _*_, _≤_, _<_}
+use Rattle.sheet.proofs.Numbered.{first-kept, mode-fits, row-fits, task-fits}
+use Rattle.sheet.proofs.judging.with_field.Statement.{statement}
+use Rattle.sheet.specs.Judging.{withField}
+use Rattle.sheet.specs.Limits.{modeLimit, rowLimit, taskLimit, headSize, gapSize}
+use Rattle.sheet.specs.Reading.{longAt}
+use Rattle.sheet.specs.Rules.{followerCount}
+use Rattle.sheet.specs.Values.{withMode, withRow, withTask}
+use Rattle.sheet.specs.declared.fields.Kind.the-variants.{ModeField, RowField, TaskField}
+use borrow.Author.Needs.{needs}
+use denote.Ref.{now}
+use mathlib.Core.Path.{_≡_, _∙_, refl, ap}
+use native.Mathlib.Omega.{arith}
+use Rattle.sheet.proofs.judging.with_field.Tie as tie
+
+-- the first rules are kept, so the content is long enough and there is room
+mode : (c : tie.After-enum-told3) →
+    let a = c .before .before .before .args in
+    (4 ≤ a .size) × (a .sheet .tally .modes < modeLimit)
+mode c = mode-fits _ _ _ _ (first-kept _ _ _ _ ModeField (rw (c .enum-told3 .given .1) at (c .before .before .before .pre .1)))
+
+row : (c : tie.After-enum-told4) →
+    let a = c .before .before .before .args in
+    (headSize ≤ a .size) × (a .size ≡ headSize + gapSize * followerCount (longAt (now (a .bytes)) (a .start + 4))) × (a .sheet .tally .rows < rowLimit)
+row c = row-fits _ _ _ _ (first-kept _ _ _ _ RowField (rw (c .enum-told4 .given .1) at (c .before .before .before .pre .1)))
+
+task : (c : tie.After-enum-told5) →
+    let a = c .before .before .before .args in
+    (6 ≤ a .size) × (a .sheet .tally .tasks < taskLimit)
+task c = task-fits _ _ _ _ (first-kept _ _ _ _ TaskField (rw (c .enum-told5 .given .1) at (c .before .before .before .pre .1)))
+
+enum-told : tie.Need-enum-told
+enum-told c = search needs
+
+enum-told-2 : tie.Need-enum-told-2
+enum-told-2 c = search needs
+
+with-label-requires : tie.Need-with-label-requires
+with-label-requires c κs = search needs
+
+enum-told-3 : tie.Need-enum-told-3
+enum-told-3 c = search needs
+
+mode-at-requires : tie.Need-mode-at-requires
+mode-at-requires c κs = omega (arith, mode c)
+
+with-mode-requires : tie.Need-with-mode-requires
+with-mode-requires c κs = mode (c .before) .1
+
+enum-told-4 : tie.Need-enum-told-4
+enum-told-4 c = search needs
+
+row-at-requires : tie.Need-row-at-requires
+row-at-requires c κs = omega (arith, row c)
+
+with-row-requires : tie.Need-with-row-requires
+with-row-requires c κs = row (c .before) .2
+
+enum-told-5 : tie.Need-enum-told-5
+enum-told-5 c = search needs
+
+task-at-requires : tie.Need-task-at-requires
+task-at-requires c κs = omega (arith, task c)
+
+with-task-requires : tie.Need-with-task-requires
+with-task-requires c κs = task (c .before) .1
+
+enum-told-6 : tie.Need-enum-told-6
+enum-told-6 c = search needs
+
+enum-told-7 : tie.Need-enum-told-7
+enum-told-7 c = search needs
+
+returns : tie.Need-returns
+unfolding withField
+returns c = rw (c .enum-told .given .1) refl
+
+returns-2 : tie.Need-returns-2
+unfolding withField
+returns-2 c = rw (c .before .enum-told2 .given .1) (c .with-label .ensures)
+
+returns-3 : tie.Need-returns-3
+unfolding withField
+returns-3 c = rw (c .before .before .enum-told3 .given .1) (c .with-mode .ensures ∙ ap (λ v. withMode (c .before .before .before .before .before .args .sheet) v) (c .before .mode-at .ensures))
+
+returns-4 : tie.Need-returns-4
+unfolding withField
+returns-4 c = rw (c .before .before .enum-told4 .given .1) (c .with-row .ensures ∙ ap (λ v. withRow (c .before .before .before .before .before .args .sheet) v) (c .before .row-at .ensures))
+
+returns-5 : tie.Need-returns-5
+unfolding withField
+returns-5 c = rw (c .before .before .enum-told5 .given .1) (c .with-task .ensures ∙ ap (λ v. withTask (c .before .before .before .before .before .args .sheet) v) (c .before .task-at .ensures))
+
+returns-6 : tie.Need-returns-6
+unfolding withField
+returns-6 c = rw (c .enum-told6 .given .1) refl
+
+returns-7 : tie.Need-returns-7
+unfolding withField
+returns-7 c = rw (c .enum-told7 .given .1) refl
+
+pub with-field-spec : {M : Type 1} → statement M
+with-field-spec =
+    tie.close
+    (tie.spec
+    enum-told
+    enum-told-2
+    with-label-requires
+    enum-told-3
+    mode-at-requires
+    with-mode-requires
+    enum-told-4
+    row-at-requires
+    with-row-requires
+    enum-told-5
+    task-at-requires
+    with-task-requires
+    enum-told-6
+    enum-told-7
+    returns
+    returns-2
+    returns-3
+    returns-4
+    returns-5
+    returns-6
+    returns-7)
