@@ -64,10 +64,16 @@ fn begin(bytes: &[u8], lines: usize, room: usize) -> Judged
         } => judged,
         Answer::Accepted => {
             if lines == 0 {
-                return refused(11);
+                return Judged {
+                    answer: refused(11),
+                    sheet: sheet,
+                };
             }
             if room < tally.rows * lines {
-                return refused(12);
+                return Judged {
+                    answer: refused(12),
+                    sheet: sheet,
+                };
             }
             judged
         }
@@ -75,15 +81,11 @@ fn begin(bytes: &[u8], lines: usize, room: usize) -> Judged
 }
 
 // From 11 on a refusal's place is 0.
-fn refused(number: u8) -> Judged
-    ensures { λ r. ⌜ r .answer ≡ Refused number 0 ⌝ }
+fn refused(number: u8) -> Answer
+    ensures { λ r. ⌜ r ≡ Refused number 0 ⌝ }
 {
-    let sheet = Sheet::empty();
-    Judged {
-        answer: Answer::Refused {
-            number: number,
-            place: 0,
-        },
-        sheet: sheet,
+    Answer::Refused {
+        number: number,
+        place: 0,
     }
 }

@@ -70,7 +70,7 @@ impl Sheet {
     pub const GAP: usize = 2;
 
     // A sheet of which nothing is read yet.
-    pub fn empty() -> Sheet
+    pub(crate) fn empty() -> Sheet
         ensures { λ r. ⌜ r ≡ emptySheet ⌝ }
     {
         let mode = Mode {
