@@ -33,7 +33,7 @@ placeOf (Refused number place) = place
 unfoldable pub refusal : ℕ → ℕ → Judged
 refusal number place = record { answer = Refused number place; sheet = emptySheet }
 
--- the first rules of a field of each kind: its tag, its place in the order, its length, its count; label and end are not counted, since 3 and 4 keep a second one out
+-- the first rules of a field of each kind: its place in the order, its length, its count; label and end are not counted, since 3 and 4 keep a second one out, and a refused tag is refused by the reader already
 unfoldable pub headRules : List ℕ → Tally → Kind → ℕ → ℕ → List Rule
 headRules bytes tally RefusedTag start size = 2 when true ∷ []
 headRules bytes tally LabelField start size = commonRules 1 (tally .last) (wrongLength 1 size) 0

@@ -43,7 +43,7 @@ pub(crate) fn field_number(bytes: &[u8], tally: Tally, kind: Kind, start: usize,
     own_number(bytes, tally, kind, start, size)
 }
 
-// The first rules of a field: its tag, its place in the order, its length, its count.
+// The first rules of a field: its place in the order, its length, its count. A refused tag does not come here, the reader has refused it.
 fn head_number(bytes: &[u8], tally: Tally, kind: Kind, start: usize, size: usize) -> u8
     requires { ⌜ start + size ≤ length (now bytes) ⌝ }
     ensures { λ r. ⌜ r ≡ firstBroken (headRules (now (bytes .entry)) tally kind start size) ⌝ }
@@ -59,7 +59,7 @@ fn head_number(bytes: &[u8], tally: Tally, kind: Kind, start: usize, size: usize
     }
 }
 
-// The rules of its bytes and numbers, which a field that keeps the first ones has.
+// The rules of a field's bytes and numbers, which are all there where it keeps the first ones.
 fn own_number(bytes: &[u8], tally: Tally, kind: Kind, start: usize, size: usize) -> u8
     requires { ⌜ start + size ≤ length (now bytes) ⌝ }
     requires { ⌜ firstBroken (headRules (now bytes) tally kind start size) ≡ 0 ⌝ }
@@ -120,7 +120,7 @@ pub(crate) fn refused(number: u8, place: usize) -> Judged
     }
 }
 
-// The sheet with what a field adds to it that breaks no rule.
+// The sheet with what a field that breaks no rule adds to it.
 pub(crate) fn with_field(bytes: &[u8], sheet: Sheet, kind: Kind, start: usize, size: usize) -> Sheet
     requires { ⌜ start + size ≤ length (now bytes) ⌝ }
     requires { ⌜ firstBroken (fieldRules (now bytes) (sheet .tally) kind start size) ≡ 0 ⌝ }
