@@ -8,7 +8,7 @@ use borrow.Author.Tests.{ltb-false, leb-false, eqb-true, not-false}
 use Rattle.sheet.specs.Deciding.{firstBroken}
 use Rattle.sheet.specs.Fields.{lineOf, fields}
 use Rattle.sheet.specs.Judging.{headRules, ownRules, fieldRules}
-use Rattle.sheet.specs.Limits.{headSize, gapSize, modeLimit, rowLimit, taskLimit}
+use Rattle.sheet.specs.Limits.{headSize, gapSize, rowLimit}
 use Rattle.sheet.specs.Reading.{longAt}
 use Rattle.sheet.specs.Rules.{outOfOrder, wrongLength, wrongRow, unlikeSet, full, followerCount, commonRules, textRules, modeRules, rowRules, rowGapRules, taskRules}
 use Rattle.sheet.specs.declared.fields.Kind.{Kind}
@@ -45,6 +45,12 @@ pub long-enough : (tag size : ℕ) → wrongLength tag size ≡ false → lineOf
 unfolding wrongLength
 long-enough tag size e = ltb-false _ _ (neither _ _ e .0)
 
+-- a field whose length the table alone decides: its content is long enough for its numbers, and there is room for one more
+pub common-fits : (tag last size count : ℕ) → Kept (commonRules tag last (wrongLength tag size) count) → (lineOf tag .shortest ≤ size) × (count < lineOf tag .most)
+common-fits tag last size count k =
+    let says = common-says tag last count (wrongLength tag size) k in
+    (long-enough tag size (says .1), says .2)
+
 -- a row's length: its head, and a gap for each row of its set
 pub row-length : (bytes : List ℕ) (start size : ℕ) → wrongRow bytes start size ≡ false
     → (8 ≤ size) × (size ≡ 8 + 2 * followerCount (longAt bytes (start + 4)))
@@ -77,11 +83,7 @@ module _ (bytes : List ℕ) (tally : Tally) (start size : ℕ) where
   pub field-numbered : (kind : Kind) → T (numbered (fieldRules bytes tally kind start size))
   field-numbered kind = both-numbered (headRules bytes tally kind start size) (ownRules bytes tally kind start size) (head-numbered kind) (own-numbered kind)
 
-  -- of a field that breaks none of its first rules: its content is long enough for its numbers, and there is room for one more
-  pub mode-fits : Kept (headRules bytes tally ModeField start size) → (4 ≤ size) × (tally .modes < modeLimit)
-  unfolding headRules lineOf fields
-  mode-fits k = let says = common-says _ _ _ _ k in (long-enough 2 size (says .1), says .2)
-
+  -- a row that breaks none of its first rules has its head and its gaps, and there is room for one more
   pub row-fits : Kept (headRules bytes tally RowField start size)
       → (headSize ≤ size) × (size ≡ headSize + gapSize * followerCount (longAt bytes (start + 4))) × (tally .rows < rowLimit)
   unfolding headRules lineOf fields
@@ -89,10 +91,6 @@ module _ (bytes : List ℕ) (tally : Tally) (start size : ℕ) where
       let says = common-says _ _ _ _ k in
       let long = row-length bytes start size (says .1) in
       (long .0, long .1, says .2)
-
-  pub task-fits : Kept (headRules bytes tally TaskField start size) → (6 ≤ size) × (tally .tasks < taskLimit)
-  unfolding headRules lineOf fields
-  task-fits k = let says = common-says _ _ _ _ k in (long-enough 4 size (says .1), says .2)
 
   module _ (kind : Kind) where
     pub head-kept : firstBroken (headRules bytes tally kind start size) ≡ 0 → Kept (headRules bytes tally kind start size)

@@ -1,9 +1,10 @@
 -- `own_number` meets its contract: each arm has the rules of its kind.
 use Prim.Native.Nat.{_+_, _*_, _≤_, _<_}
-use Rattle.sheet.proofs.Numbered.{head-kept, mode-fits, row-fits, task-fits}
+use Rattle.sheet.proofs.Numbered.{head-kept, common-fits, row-fits}
 use Rattle.sheet.proofs.judging.own_number.Statement.{statement}
 use Rattle.sheet.specs.Deciding.{firstBroken}
-use Rattle.sheet.specs.Judging.{ownRules}
+use Rattle.sheet.specs.Fields.{lineOf, fields}
+use Rattle.sheet.specs.Judging.{headRules, ownRules}
 use Rattle.sheet.specs.Limits.{rowLimit, headSize, gapSize}
 use Rattle.sheet.specs.Reading.{longAt}
 use Rattle.sheet.specs.Rules.{followerCount}
@@ -33,7 +34,10 @@ enum-told-3 : tie.Need-enum-told-3
 enum-told-3 c = search needs
 
 mode-at-requires : tie.Need-mode-at-requires
-mode-at-requires c κs = omega (arith, mode-fits _ _ _ _ (head-kept _ _ _ _ ModeField (rw (c .enum-told3 .given .1) at (c .before .before .before .pre .1))))
+unfolding headRules lineOf fields
+mode-at-requires c κs =
+    let a = c .before .before .before .args in
+    omega (arith, common-fits 2 _ _ _ (head-kept (now (a .bytes)) (a .tally) (a .start) (a .size) ModeField (rw (c .enum-told3 .given .1) at (c .before .before .before .pre .1))))
 
 mode-number-requires : tie.Need-mode-number-requires
 mode-number-requires c κs = search needs
@@ -51,7 +55,10 @@ enum-told-5 : tie.Need-enum-told-5
 enum-told-5 c = search needs
 
 task-at-requires : tie.Need-task-at-requires
-task-at-requires c κs = omega (arith, task-fits _ _ _ _ (head-kept _ _ _ _ TaskField (rw (c .enum-told5 .given .1) at (c .before .before .before .pre .1))))
+unfolding headRules lineOf fields
+task-at-requires c κs =
+    let a = c .before .before .before .args in
+    omega (arith, common-fits 4 _ _ _ (head-kept (now (a .bytes)) (a .tally) (a .start) (a .size) TaskField (rw (c .enum-told5 .given .1) at (c .before .before .before .pre .1))))
 
 task-number-requires : tie.Need-task-number-requires
 task-number-requires c κs = search needs

@@ -1,8 +1,9 @@
 -- `with_field` meets its contract: each arm adds what its kind adds.
 use Prim.Native.Nat.{_+_, _*_, _≤_, _<_}
-use Rattle.sheet.proofs.Numbered.{first-kept, mode-fits, row-fits, task-fits}
+use Rattle.sheet.proofs.Numbered.{first-kept, common-fits, row-fits}
 use Rattle.sheet.proofs.judging.with_field.Statement.{statement}
-use Rattle.sheet.specs.Judging.{withField}
+use Rattle.sheet.specs.Fields.{lineOf, fields}
+use Rattle.sheet.specs.Judging.{headRules, withField}
 use Rattle.sheet.specs.Limits.{modeLimit, rowLimit, taskLimit, headSize, gapSize}
 use Rattle.sheet.specs.Reading.{longAt}
 use Rattle.sheet.specs.Rules.{followerCount}
@@ -18,7 +19,8 @@ use Rattle.sheet.proofs.judging.with_field.Tie as tie
 mode : (c : tie.After-enum-told3) →
     let a = c .before .before .before .args in
     (4 ≤ a .size) × (a .sheet .tally .modes < modeLimit)
-mode c = mode-fits _ _ _ _ (first-kept _ _ _ _ ModeField (rw (c .enum-told3 .given .1) at (c .before .before .before .pre .1)))
+unfolding headRules lineOf fields
+mode c = common-fits 2 _ _ _ (first-kept _ _ _ _ ModeField (rw (c .enum-told3 .given .1) at (c .before .before .before .pre .1)))
 
 row : (c : tie.After-enum-told4) →
     let a = c .before .before .before .args in
@@ -28,7 +30,8 @@ row c = row-fits _ _ _ _ (first-kept _ _ _ _ RowField (rw (c .enum-told4 .given 
 task : (c : tie.After-enum-told5) →
     let a = c .before .before .before .args in
     (6 ≤ a .size) × (a .sheet .tally .tasks < taskLimit)
-task c = task-fits _ _ _ _ (first-kept _ _ _ _ TaskField (rw (c .enum-told5 .given .1) at (c .before .before .before .pre .1)))
+unfolding headRules lineOf fields
+task c = common-fits 4 _ _ _ (first-kept _ _ _ _ TaskField (rw (c .enum-told5 .given .1) at (c .before .before .before .pre .1)))
 
 enum-told : tie.Need-enum-told
 enum-told c = search needs
