@@ -1,5 +1,5 @@
 /*
- * The calls of the desk for C, as the archive of `rt staticlib face` has them (x86-64, target/staticlib/libface.a).
+ * The calls of the desk for C, as the archive of `rt staticlib marnipode` has them (x86-64, target/staticlib/libmarnipode.a).
  *
  * What a caller owes, since no call can see it:
  *   - a pointer stands for as many elements as the size or count after it says, aligned as its type asks; for 0 elements

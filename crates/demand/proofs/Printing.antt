@@ -8,19 +8,20 @@ use mathlib.Core.List.{List}
 use lib.Dec.{ltb}
 use lib.ListN.{length}
 use borrow.Author.Tests.{le-ltb}
-use Rattle.walks.specs.Cells.{ByInterval}
-use Rattle.walks.specs.Demand.{longestTime, IsDemand}
-use Rattle.walks.specs.Verdict.{Verdict, IsVerdict}
-use Rattle.walks.proofs.Unique.{demand-unique}
+use Rattle.meaning.specs.Cells.{ByInterval}
+use Rattle.meaning.specs.Demand.{longestTime, IsDemand}
+use Rattle.meaning.specs.Verdict.{Verdict, IsVerdict}
+use Rattle.meaning.proofs.Unique.{demand-unique}
 use Rattle.sheet.specs.Judging.{judged}
 use Rattle.sheet.specs.Meaning.{graphOf}
 use Rattle.sheet.specs.Proper.{Bytes}
 use Rattle.sheet.specs.declared.Answer.the-variants.{Accepted}
-use Rattle.cells.proofs.Lines.{filled-lines, line-demand}
-use Rattle.desk.specs.Calls.{graph, tasks, rows, lines, FilledByInterval, VerdictRefuses, VerdictAnswers, VerdictCall, VerdictByIntervalCall, verdictAnswer}
+use Rattle.tables.proofs.Lines.{filled-lines, line-demand}
+use Rattle.beginning.specs.Beginning.{graph, tasks, rows, lines, FilledByInterval}
+use Rattle.desk.specs.Calls.{VerdictRefuses, VerdictAnswers, VerdictCall, VerdictByIntervalCall, verdictAnswer}
 use Rattle.desk.specs.declared.VerdictAnswer.{VerdictAnswer}
-use Rattle.desk.proofs.Beginnings.{comes-to-answer}
-use Rattle.desk.proofs.Telling.{accepted-ready}
+use Rattle.beginning.proofs.Beginnings.{comes-to-answer}
+use Rattle.sheet.proofs.AcceptedReady.{accepted-ready}
 use Rattle.demand.specs.Rising.{IsHorizon, demandIn, Rises}
 
 module _ (bytes : List ℕ) (fit : Bytes bytes) (accepted : judged bytes .answer ≡ Accepted) (horizon : ℕ) (old new : List ℕ) (answer : VerdictAnswer)

@@ -1,8 +1,8 @@
 -- What the program prints of a table by interval: up to which horizon, and at which intervals.
 use Prim.Native.Nat.{ℕ, _+_, _-_, _*_, _≤_, _<_}
 use mathlib.Core.List.{List}
-use Rattle.walks.specs.Computed.{cellAt, maxBelow}
-use Rattle.walks.specs.Demand.{longestTime}
+use Rattle.meaning.specs.Computed.{cellAt, maxBelow}
+use Rattle.meaning.specs.Demand.{longestTime}
 
 -- the largest horizon whose lines, one for each interval from 0 on and a cell a row, fit a number of cells
 pub record IsHorizon (cells rows horizon : ℕ) : Type 0 where

@@ -1,17 +1,17 @@
 // The program: reads a sheet from standard input and prints where the engine's demand rises, and the verdict, up to the horizon that fits its cells.
 mod steps;
 
-use cells::interval::demand_of;
 use desk::VerdictAnswer;
 use libc::STDIN_FILENO;
 use libc::STDOUT_FILENO;
 use sheet::Answer;
 use steps::horizon_of;
 use steps::next_rise;
+use tables::interval::demand_of;
 ghost use Prim.Native.Nat.{_+_, _*_, _≤_};
 ghost use lib.ListN.{length};
-ghost use Rattle.walks.specs.Demand.{longestTime};
-ghost use Rattle.sheet.specs.Limits.{rowLimit};
+ghost use Rattle.meaning.specs.Demand.{longestTime};
+ghost use Rattle.fields.specs.Limits.{rowLimit};
 
 // The longest sheet that is read, and the cells to work in.
 const LONGEST: usize = 8192;

@@ -1,9 +1,9 @@
 // What is printed: up to which horizon, and at which intervals demand rises.
-use cells::interval::demand_of;
-use sheet::values::Sheet;
+use fields::values::Sheet;
+use tables::interval::demand_of;
 ghost use Prim.Native.Nat.{_+_, _*_, _≤_};
 ghost use lib.ListN.{length};
-ghost use Rattle.walks.specs.Demand.{longestTime};
+ghost use Rattle.meaning.specs.Demand.{longestTime};
 ghost use Rattle.demand.specs.Rising.{IsHorizon, IsNextRise};
 
 // The largest horizon whose lines fit a number of cells.

@@ -8,18 +8,19 @@ use mathlib.Core.List.{List, _++_}
 use lib.Dec.{ltb, eqb}
 use lib.ListN.{length, drop}
 use borrow.Author.Tests.{ltb-false, le-ltb, eq-eqb, ne-eqb, eqb-true}
-use Rattle.walks.specs.Demand.{longestTime, noTime, IsDemand, IsShortest}
-use Rattle.walks.proofs.Agreement.{agree, agree-none}
-use Rattle.walks.proofs.Verdicts.{verdict-unique}
-use Rattle.sheet.specs.Deciding.{pick, _or_}
+use Rattle.meaning.specs.Demand.{longestTime, noTime, IsDemand, IsShortest}
+use Rattle.meaning.proofs.Agreement.{agree, agree-none}
+use Rattle.meaning.proofs.Verdicts.{verdict-unique}
+use Rattle.fields.specs.Deciding.{pick, _or_}
 use Rattle.sheet.specs.Judging.{judged}
 use Rattle.sheet.specs.declared.Answer.the-variants as sheet-case
-use Rattle.desk.specs.Calls.{Begins, Either, badAmount, graph, tasks, lines, FilledByInterval, FilledByAmount, DemandRefuses, DemandAnswers, DemandCall, ShortestRefuses, ShortestGives, ShortestAnswers, ShortestCall, VerdictRefuses, VerdictAnswers, VerdictCall, VerdictByIntervalCall, VerdictByAmountCall, verdictAnswer}
+use Rattle.beginning.specs.Beginning.{Begins, badAmount, graph, tasks, lines, FilledByInterval, FilledByAmount}
+use Rattle.desk.specs.Calls.{Either, DemandRefuses, DemandAnswers, DemandCall, ShortestRefuses, ShortestGives, ShortestAnswers, ShortestCall, VerdictRefuses, VerdictAnswers, VerdictCall, VerdictByIntervalCall, VerdictByAmountCall, verdictAnswer}
 use Rattle.desk.specs.declared.DemandAnswer.the-variants as demand-case
 use Rattle.desk.specs.declared.ShortestAnswer as shortest
 use Rattle.desk.specs.declared.ShortestAnswer.the-variants as shortest-case
 use Rattle.desk.specs.declared.VerdictAnswer as verdict
-use Rattle.desk.proofs.Beginnings.{begins-alike, came-to-answer, comes-to-answer, amount-some}
+use Rattle.beginning.proofs.Beginnings.{begins-alike, came-to-answer, comes-to-answer, amount-some}
 
 -- one of two promises, taken apart
 either-case : (test : Bool) (T E C : Type 0) → (T → C) → (E → C) → Either test T E → C

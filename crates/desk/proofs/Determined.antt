@@ -9,14 +9,15 @@ use lib.Dec.{ltb, eqb}
 use lib.ListN.{length, drop}
 use lib.Seq.{ext-getD}
 use native.Mathlib.Omega.{arith}
-use Rattle.walks.specs.Demand.{longestTime, noTime}
-use Rattle.walks.specs.Cells.{ByInterval, ByAmount, Filled}
-use Rattle.walks.proofs.Unique.{demand-unique, shortest-unique, best-unique, least-unique, witness-unique}
-use Rattle.walks.proofs.Margins.{margin-unique}
-use Rattle.walks.proofs.Verdicts.{verdict-unique}
-use Rattle.walks.proofs.Filling.{filled-unique}
+use Rattle.meaning.specs.Demand.{longestTime, noTime}
+use Rattle.meaning.specs.Cells.{ByInterval, ByAmount, Filled}
+use Rattle.meaning.proofs.Unique.{demand-unique, shortest-unique, best-unique, least-unique, witness-unique}
+use Rattle.meaning.proofs.Margins.{margin-unique}
+use Rattle.meaning.proofs.Verdicts.{verdict-unique}
+use Rattle.meaning.proofs.Filling.{filled-unique}
 use Rattle.sheet.specs.Judging.{judged}
-use Rattle.desk.specs.Calls.{Either, badAmount, graph, tasks, rows, lines, FilledByInterval, FilledByAmount, DemandRefuses, DemandGives, DemandAnswers, DemandCall, MarginRefuses, MarginAnswers, MarginCall, ShortestRefuses, ShortestGives, ShortestAnswers, ShortestCall, VerdictRefuses, VerdictAnswers, VerdictCall, VerdictByIntervalCall, VerdictByAmountCall, verdictAnswer}
+use Rattle.desk.specs.Calls.{Either, DemandRefuses, DemandGives, DemandAnswers, DemandCall, MarginRefuses, MarginAnswers, MarginCall, ShortestRefuses, ShortestGives, ShortestAnswers, ShortestCall, VerdictRefuses, VerdictAnswers, VerdictCall, VerdictByIntervalCall, VerdictByAmountCall, verdictAnswer}
+use Rattle.beginning.specs.Beginning.{badAmount, graph, tasks, rows, lines, FilledByInterval, FilledByAmount}
 use Rattle.desk.specs.declared.DemandAnswer as demand
 use Rattle.desk.specs.declared.DemandAnswer.the-variants as demand-case
 use Rattle.desk.specs.declared.MarginAnswer as margin
@@ -24,7 +25,7 @@ use Rattle.desk.specs.declared.MarginAnswer.the-variants as margin-case
 use Rattle.desk.specs.declared.ShortestAnswer as shortest
 use Rattle.desk.specs.declared.ShortestAnswer.the-variants as shortest-case
 use Rattle.desk.specs.declared.VerdictAnswer as verdict
-use Rattle.desk.proofs.Beginnings.{begins-alike}
+use Rattle.beginning.proofs.Beginnings.{begins-alike}
 
 -- two promises chosen by the same test are both the one or both the other
 either-alike : (test : Bool) (T U E F C : Type 0) → (T → U → C) → (E → F → C) → Either test T E → Either test U F → C

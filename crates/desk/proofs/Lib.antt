@@ -1,6 +1,4 @@
-pub mod Beginnings
 pub mod Determined
 pub mod Agreement
 pub mod Room
 pub mod Telling
-pub mod Calling

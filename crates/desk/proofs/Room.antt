@@ -7,8 +7,8 @@ use mathlib.Core.List.{List, _++_}
 use lib.Dec.{ltb}
 use lib.ListN.{length, drop}
 use borrow.Author.Tests.{le-ltb}
-use Rattle.walks.specs.Demand.{longestTime}
-use Rattle.walks.proofs.Bounds.{witness-at-most}
+use Rattle.meaning.specs.Demand.{longestTime}
+use Rattle.meaning.proofs.Bounds.{witness-at-most}
 use Rattle.sheet.specs.Judging.{judged}
 use Rattle.sheet.specs.Proper.{Bytes}
 use Rattle.sheet.proofs.Accepted.{accepted-proper}
@@ -16,7 +16,8 @@ use Rattle.sheet.proofs.ProperGraph.{proper-sound}
 use Rattle.sheet.proofs.Refusals.{refused-number}
 use Rattle.sheet.specs.declared.Answer.{Answer}
 use Rattle.sheet.specs.declared.Answer.the-variants as sheet-case
-use Rattle.desk.specs.Calls.{Begins, Either, graph, lines, DemandRefuses, DemandAnswers, DemandCall}
+use Rattle.beginning.specs.Beginning.{Begins, graph, lines}
+use Rattle.desk.specs.Calls.{Either, DemandRefuses, DemandAnswers, DemandCall}
 use Rattle.desk.specs.declared.DemandAnswer as demand
 use Rattle.desk.specs.declared.DemandAnswer.the-variants as demand-case
 use Rattle.desk.proofs.Agreement.{found-not-refused}

@@ -9,57 +9,42 @@ use mir.Syntax.{w64}
 use mir.Val.{toZ, ofZ}
 use mir.Facts.{toZ-pos}
 use borrow.Author.Tests.{lt-ltb, le-ltb, eq-eqb, ne-eqb}
-use Rattle.walks.specs.Demand.{noTime, IsDemand, IsWitness, IsShortest}
-use Rattle.walks.specs.Cells.{ByInterval, ByAmount, Filled}
-use Rattle.walks.specs.Fixed.{fixedSum}
-use Rattle.walks.specs.Verdict.{IsVerdict}
-use Rattle.walks.specs.Computed.{cellAt, cellFor, maxBelow, minBelow, witnessOf}
-use Rattle.walks.proofs.Differences.{sub-is64}
-use Rattle.walks.proofs.Existence.{witness-of}
-use Rattle.walks.proofs.Margins.{difference, margin-sub}
+use Rattle.meaning.specs.Graph.{Graph}
+use Rattle.meaning.specs.Demand.{noTime, IsDemand, IsWitness, IsShortest}
+use Rattle.meaning.specs.Cells.{ByInterval, ByAmount, Filled}
+use Rattle.meaning.specs.Fixed.{fixedSum}
+use Rattle.meaning.specs.Verdict.{IsVerdict}
+use Rattle.meaning.specs.Computed.{cellAt, cellFor, maxBelow, minBelow, witnessOf}
+use Rattle.meaning.proofs.Differences.{sub-is64}
+use Rattle.meaning.proofs.Existence.{witness-of}
+use Rattle.meaning.proofs.Margins.{difference, margin-sub}
 use Rattle.sheet.specs.Judging.{judged}
 use Rattle.sheet.specs.Meaning.{graphOf, tasksOf}
-use Rattle.sheet.specs.Proper.{Bytes}
-use Rattle.sheet.specs.declared.Answer.the-variants.{Accepted}
-use Rattle.sheet.specs.declared.values.Sheet.{Sheet}
-use Rattle.sheet.proofs.Accepted.{accepted-proper}
-use Rattle.sheet.proofs.ProperGraph.{proper-sound, length-proper}
-use Rattle.cells.specs.Ready.{Ready}
-use Rattle.cells.specs.Lines.{HasLines}
-use Rattle.cells.specs.Sweeping.{IsSwept, verdictOf}
-use Rattle.cells.specs.declared.sweep.Swept.{Swept}
-use Rattle.cells.proofs.Lines.{filled-lines, line-demand}
-use Rattle.cells.proofs.Amounts.{line-shortest}
-use Rattle.desk.specs.Calls.{graph, tasks, lines, FilledByInterval, FilledByAmount, DemandAnswers, MarginAnswers, ShortestGives, ShortestAnswers, VerdictAnswers, verdictAnswer}
+use Rattle.fields.specs.declared.values.Sheet.{Sheet}
+use Rattle.sheet.specs.Ready.{Ready}
+use Rattle.tables.specs.Lines.{HasLines}
+use Rattle.tables.specs.Either.{tableOf}
+use Rattle.tables.specs.declared.Table.{Table}
+use Rattle.overruns.specs.Sweeping.{IsSwept, verdictOf}
+use Rattle.overruns.specs.declared.sweep.Swept.{Swept}
+use Rattle.tables.proofs.Lines.{filled-lines, line-demand}
+use Rattle.tables.proofs.Amounts.{line-shortest}
+use Rattle.beginning.specs.Beginning.{graph, tasks, rows, lines}
+use Rattle.desk.specs.Calls.{DemandAnswers, MarginAnswers, ShortestGives, ShortestAnswers, VerdictAnswers, verdictAnswer}
+use Rattle.desk.specs.EitherTable.{filledBy}
 use Rattle.desk.specs.declared.DemandAnswer.the-variants as demand-case
 use Rattle.desk.specs.declared.MarginAnswer.the-variants as margin-case
 use Rattle.desk.specs.declared.ShortestAnswer as shortest
 use Rattle.desk.specs.declared.ShortestAnswer.the-variants as shortest-case
 use Rattle.desk.specs.declared.VerdictAnswer as verdict
 
--- the tables may be filled for every accepted sheet
-pub accepted-ready : (bytes : List ℕ) → Bytes bytes → judged bytes .answer ≡ Accepted → Ready bytes (judged bytes .sheet)
-accepted-ready bytes fit accepted =
-    let proper = accepted-proper bytes fit accepted in
-    record {
-      proper = proper;
-      sound = proper-sound bytes (judged bytes .sheet) proper;
-      lengths-most = λ k h. length-proper bytes (judged bytes .sheet) proper k h .1;
-    }
-
 -- a sheet in hand, and the bytes that it was judged from
 module _ (bytes : List ℕ) (sheet : Sheet) (is : sheet ≡ judged bytes .sheet) (ready : Ready bytes sheet) where
-  -- lines filled by interval for the sheet are those that the call promises
-  by-interval-told : (count : ℕ) (old new : List ℕ)
-      → Filled (sheet .tally .rows) (ByInterval (graphOf bytes sheet)) old new (sheet .tally .rows * count) → FilledByInterval bytes count old new
-  by-interval-told count old new =
-      subst (λ (s : Sheet). Filled (s .tally .rows) (ByInterval (graphOf bytes s)) old new (s .tally .rows * count)) is
-
-  -- and by amount
-  by-amount-told : (count : ℕ) (old new : List ℕ)
-      → Filled (sheet .tally .rows) (ByAmount (graphOf bytes sheet)) old new (sheet .tally .rows * count) → FilledByAmount bytes count old new
-  by-amount-told count old new =
-      subst (λ (s : Sheet). Filled (s .tally .rows) (ByAmount (graphOf bytes s)) old new (s .tally .rows * count)) is
+  -- lines filled for the sheet, of either table, are those that the call promises
+  lines-filled : (Right : Graph → ℕ → ℕ → ℕ → Type 0) (count : ℕ) (old new : List ℕ)
+      → Filled (sheet .tally .rows) (Right (graphOf bytes sheet)) old new (sheet .tally .rows * count) → Filled (rows bytes) (Right (graph bytes)) old new (lines bytes count)
+  lines-filled Right count old new =
+      subst (λ (s : Sheet). Filled (s .tally .rows) (Right (graphOf bytes s)) old new (s .tally .rows * count)) is
 
   -- there is room for the lines of the sheet
   pub room-told : (count : ℕ) (cells : List ℕ) → lines bytes count ≤ length cells → sheet .tally .rows * count ≤ length cells
@@ -84,7 +69,7 @@ module _ (bytes : List ℕ) (sheet : Sheet) (is : sheet ≡ judged bytes .sheet)
         → MarginAnswers bytes t old (margin-case.Found m) new
     margin-told amount fixed m most sum e =
         let same-sum : fixed ≡ fixedSum (tasks bytes) t = sum ∙ ap (λ (s : Sheet). fixedSum (tasksOf s) t) is in (
-          by-interval-told (t + 1) old new filled,
+          lines-filled ByInterval (t + 1) old new filled,
           (
             m,
             (
@@ -104,7 +89,7 @@ module _ (bytes : List ℕ) (sheet : Sheet) (is : sheet ≡ judged bytes .sheet)
         → amount ≡ maxBelow (sheet .tally .rows) (cellAt (sheet .tally .rows) new t) → length area < length (witnessOf (graphOf bytes sheet) t)
         → DemandAnswers bytes t old area (demand-case.Refused 13 0) new area
     demand-too-long amount area most long = (
-      by-interval-told (t + 1) old new filled,
+      lines-filled ByInterval (t + 1) old new filled,
       (
         amount,
         witnessOf (graphOf bytes sheet) t,
@@ -120,7 +105,7 @@ module _ (bytes : List ℕ) (sheet : Sheet) (is : sheet ≡ judged bytes .sheet)
         → length (witnessOf (graphOf bytes sheet) t) ≤ length area → area′ ≡ witnessOf (graphOf bytes sheet) t ++ drop (length (witnessOf (graphOf bytes sheet) t)) area
         → DemandAnswers bytes t old area (demand-case.Found amount count) new area′
     demand-written amount count area area′ most counted fits written = (
-      by-interval-told (t + 1) old new filled,
+      lines-filled ByInterval (t + 1) old new filled,
       (
         amount,
         witnessOf (graphOf bytes sheet) t,
@@ -144,34 +129,19 @@ module _ (bytes : List ℕ) (sheet : Sheet) (is : sheet ≡ judged bytes .sheet)
     pub shortest-answers : (time : ℕ) (answer : shortest.ShortestAnswer)
         → time ≡ minBelow (sheet .tally .rows) noTime (cellFor (sheet .tally .rows) new b) → ShortestGives answer time
         → ShortestAnswers bytes b old answer new
-    shortest-answers time answer least gives = (by-amount-told b old new filled, (time, shortest-told time least, gives))
+    shortest-answers time answer least gives = (lines-filled ByAmount b old new filled, (time, shortest-told time least, gives))
 
-  -- a verdict from lines filled by interval
-  pub verdict-by-interval-told : (horizon : ℕ) (old new : List ℕ) → sheet .tally .rows * (horizon + 1) ≤ length old
-      → Filled (sheet .tally .rows) (ByInterval (graphOf bytes sheet)) old new (sheet .tally .rows * (horizon + 1))
-      → (swept : Swept) → IsSwept ByInterval sheet new horizon swept
-      → (answer : verdict.VerdictAnswer) → answer ≡ verdictAnswer (verdictOf swept) → VerdictAnswers FilledByInterval bytes horizon old answer new
-  verdict-by-interval-told horizon old new room filled swept says answer e = (
-    by-interval-told (horizon + 1) old new filled,
+  -- a verdict from the lines of a table
+  pub verdict-told : (table : Table) (horizon : ℕ) (old new : List ℕ) → sheet .tally .rows * (horizon + 1) ≤ length old
+      → Filled (sheet .tally .rows) (tableOf table (graphOf bytes sheet)) old new (sheet .tally .rows * (horizon + 1))
+      → (swept : Swept) → IsSwept (tableOf table) sheet new horizon swept
+      → (answer : verdict.VerdictAnswer) → answer ≡ verdictAnswer (verdictOf swept) → VerdictAnswers (filledBy table) bytes horizon old answer new
+  verdict-told table horizon old new room filled swept says answer e = (
+    lines-filled (tableOf table) (horizon + 1) old new filled,
     (
       verdictOf swept,
       subst (λ (s : Sheet). IsVerdict (graphOf bytes s) (tasksOf s) horizon (verdictOf swept)) is
-          (says bytes ready (filled-lines (sheet .tally .rows) (ByInterval (graphOf bytes sheet)) (horizon + 1) old new room filled)),
-      e,
-    ),
-  )
-
-  -- and by amount
-  pub verdict-by-amount-told : (horizon : ℕ) (old new : List ℕ) → sheet .tally .rows * (horizon + 1) ≤ length old
-      → Filled (sheet .tally .rows) (ByAmount (graphOf bytes sheet)) old new (sheet .tally .rows * (horizon + 1))
-      → (swept : Swept) → IsSwept ByAmount sheet new horizon swept
-      → (answer : verdict.VerdictAnswer) → answer ≡ verdictAnswer (verdictOf swept) → VerdictAnswers FilledByAmount bytes horizon old answer new
-  verdict-by-amount-told horizon old new room filled swept says answer e = (
-    by-amount-told (horizon + 1) old new filled,
-    (
-      verdictOf swept,
-      subst (λ (s : Sheet). IsVerdict (graphOf bytes s) (tasksOf s) horizon (verdictOf swept)) is
-          (says bytes ready (filled-lines (sheet .tally .rows) (ByAmount (graphOf bytes sheet)) (horizon + 1) old new room filled)),
+          (says bytes ready (filled-lines (sheet .tally .rows) (tableOf table (graphOf bytes sheet)) (horizon + 1) old new room filled)),
       e,
     ),
   )

@@ -1,21 +1,15 @@
 -- What each call promises: the answer, every lent cell and every byte of the witness area, for any bytes and any numbers.
-use Prim.Native.Nat.{ℕ, _+_, _*_}
+use Prim.Native.Nat.{ℕ, _+_}
 use mathlib.Core.Path.{_≡_}
 use mathlib.Core.Bool.{Bool, true, false}
 use mathlib.Core.List.{List, _++_}
 use lib.Dec.{ltb, eqb}
 use lib.ListN.{length, drop}
 use lib.IntN.{ℤ}
-use Rattle.walks.specs.Graph.{Graph}
-use Rattle.walks.specs.Demand.{longestTime, noTime, IsDemand, IsWitness, IsShortest}
-use Rattle.walks.specs.Cells.{ByInterval, ByAmount, Filled}
-use Rattle.walks.specs.Fixed.{Task}
-use Rattle.walks.specs.Verdict.{Verdict, holds, overrun, IsMargin, IsVerdict}
-use Rattle.sheet.specs.Deciding.{_or_}
+use Rattle.meaning.specs.Demand.{longestTime, noTime, IsDemand, IsWitness, IsShortest}
+use Rattle.meaning.specs.Verdict.{Verdict, holds, overrun, IsMargin, IsVerdict}
 use Rattle.sheet.specs.Judging.{judged}
-use Rattle.sheet.specs.Meaning.{graphOf, tasksOf}
-use Rattle.sheet.specs.declared.Answer.{Answer}
-use Rattle.sheet.specs.declared.Answer.the-variants as sheet-case
+use Rattle.beginning.specs.Beginning.{graph, tasks, Begins, lines, FilledByInterval, FilledByAmount, badAmount}
 use Rattle.desk.specs.declared.DemandAnswer as demand
 use Rattle.desk.specs.declared.DemandAnswer.the-variants as demand-case
 use Rattle.desk.specs.declared.MarginAnswer as margin
@@ -25,38 +19,10 @@ use Rattle.desk.specs.declared.ShortestAnswer.the-variants as shortest-c
 use Rattle.desk.specs.declared.VerdictAnswer as verdict
 use Rattle.desk.specs.declared.VerdictAnswer.the-variants as verdict-case
 
--- the graph and the fixed tasks of a sheet's bytes, and how many rows it has
-abbrev pub graph : List ℕ → Graph
-graph bytes = graphOf bytes (judged bytes .sheet)
-
-abbrev pub tasks : List ℕ → List Task
-tasks bytes = tasksOf (judged bytes .sheet)
-
-abbrev pub rows : List ℕ → ℕ
-rows bytes = judged bytes .sheet .tally .rows
-
--- how every call begins: the sheet's own refusal, then 11 where the number asked for is out of range, then 12 where the cells are too few
-abbrev pub Begins : Answer → Bool → Bool → (ℕ → ℕ → Type 0) → Type 0 → Type 0
-Begins (sheet-case.Refused number place) outOfRange tooFew Refuses Answers = Refuses number place
-Begins sheet-case.Accepted true tooFew Refuses Answers = Refuses 11 0
-Begins sheet-case.Accepted false true Refuses Answers = Refuses 12 0
-Begins sheet-case.Accepted false false Refuses Answers = Answers
-
 -- one of two promises, by a test
 abbrev pub Either : Bool → Type 0 → Type 0 → Type 0
 Either true Then Else = Then
 Either false Then Else = Else
-
--- how many cells a number of lines takes, one cell a row
-abbrev pub lines : List ℕ → ℕ → ℕ
-lines bytes count = rows bytes * count
-
--- the first `count` lines of the table by interval are filled and nothing else has changed; likewise by amount
-abbrev pub FilledByInterval : List ℕ → ℕ → List ℕ → List ℕ → Type 0
-FilledByInterval bytes count old new = Filled (rows bytes) (ByInterval (graph bytes)) old new (lines bytes count)
-
-abbrev pub FilledByAmount : List ℕ → ℕ → List ℕ → List ℕ → Type 0
-FilledByAmount bytes count old new = Filled (rows bytes) (ByAmount (graph bytes)) old new (lines bytes count)
 
 -- a refused demand changes no lent cell or byte
 abbrev pub DemandRefuses : List ℕ → List ℕ → demand.DemandAnswer → List ℕ → List ℕ → ℕ → ℕ → Type 0
@@ -95,10 +61,6 @@ unfoldable pub MarginCall : List ℕ → ℕ → List ℕ → margin.MarginAnswe
 MarginCall bytes t cells answer cells′ =
     Begins (judged bytes .answer) (ltb longestTime t) (ltb (length cells) (lines bytes (t + 1)))
     (MarginRefuses cells answer cells′) (MarginAnswers bytes t cells answer cells′)
-
--- an amount that is asked for is from 1 to one more than the longest time
-abbrev pub badAmount : ℕ → Bool
-badAmount b = eqb b 0 or ltb (longestTime + 1) b
 
 abbrev pub ShortestRefuses : List ℕ → shortest.ShortestAnswer → List ℕ → ℕ → ℕ → Type 0
 ShortestRefuses cells answer cells′ number place = (answer ≡ shortest-case.Refused number place) × (cells′ ≡ cells)

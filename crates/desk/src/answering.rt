@@ -3,27 +3,30 @@ use crate::DemandAnswer;
 use crate::MarginAnswer;
 use crate::ShortestAnswer;
 use crate::VerdictAnswer;
-use cells::amount::NO_TIME;
-use cells::amount::fill_by_amount;
-use cells::amount::shortest_of;
-use cells::interval::demand_of;
-use cells::interval::fill_by_interval;
-use cells::sweep::Swept;
-use cells::sweep::sweep_by_amount;
-use cells::sweep::sweep_by_interval;
-use cells::tasks::fixed_sum;
-use cells::witness::witness_count;
-use cells::witness::write_witness;
-use sheet::values::Sheet;
+use fields::values::Sheet;
+use overruns::sweep::Swept;
+use overruns::sweep::sweep;
+use overruns::tasks::fixed_sum;
+use tables::Table;
+use tables::amount::NO_TIME;
+use tables::amount::fill_by_amount;
+use tables::amount::shortest_of;
+use tables::fill;
+use tables::interval::demand_of;
+use tables::interval::fill_by_interval;
+use witness::witness_count;
+use witness::write_witness;
 ghost use mathlib.Core.Path.{_≡_};
 ghost use Prim.Native.Nat.{_+_, _^_, _≤_, _<_};
 ghost use lib.IntN.{pos, _-ℤ_};
 ghost use lib.ListN.{length};
-ghost use Rattle.walks.specs.Demand.{longestTime};
+ghost use Rattle.meaning.specs.Demand.{longestTime};
 ghost use Rattle.sheet.specs.Judging.{judged};
-ghost use Rattle.cells.specs.Ready.{Ready};
-ghost use Rattle.cells.specs.Sweeping.{verdictOf};
-ghost use Rattle.desk.specs.Calls.{lines, DemandAnswers, MarginAnswers, ShortestAnswers, VerdictAnswers, FilledByInterval, FilledByAmount, verdictAnswer};
+ghost use Rattle.sheet.specs.Ready.{Ready};
+ghost use Rattle.overruns.specs.Sweeping.{verdictOf};
+ghost use Rattle.beginning.specs.Beginning.{lines};
+ghost use Rattle.desk.specs.Calls.{DemandAnswers, MarginAnswers, ShortestAnswers, VerdictAnswers, verdictAnswer};
+ghost use Rattle.desk.specs.EitherTable.{filledBy};
 
 // The table by interval, then the largest cell of its last line and the witness, which is counted before it is written.
 pub(crate) fn demand_in(
@@ -97,8 +100,9 @@ pub(crate) fn shortest_in(
     ShortestAnswer::Found { time: time }
 }
 
-// The table by interval, all of it, then the first interval that it shows to be overrun.
-pub(crate) fn verdict_by_interval_in(
+// All lines of a table, then the first interval that they show to be overrun.
+pub(crate) fn verdict_in(
+    table: Table,
     bytes: &[u8],
     sheet: Sheet,
     horizon: usize,
@@ -108,28 +112,10 @@ pub(crate) fn verdict_by_interval_in(
     requires { ⌜ sheet ≡ judged (now bytes) .sheet ⌝ }
     requires { ⌜ horizon ≤ longestTime ⌝ }
     requires { ⌜ lines (now bytes) (horizon + 1) ≤ length (now cells) ⌝ }
-    ensures { λ r. ⌜ VerdictAnswers FilledByInterval (now (bytes .entry)) horizon (now (cells .entry)) r (now (cells .exit)) ⌝ }
+    ensures { λ r. ⌜ VerdictAnswers (filledBy table) (now (bytes .entry)) horizon (now (cells .entry)) r (now (cells .exit)) ⌝ }
 {
-    fill_by_interval(bytes, sheet, cells, horizon);
-    let swept = sweep_by_interval(sheet, cells, horizon);
-    as_answer(swept)
-}
-
-// The table by amount, all of it, then the first interval that it shows to be overrun.
-pub(crate) fn verdict_by_amount_in(
-    bytes: &[u8],
-    sheet: Sheet,
-    horizon: usize,
-    cells: &mut [u32],
-) -> VerdictAnswer
-    requires { ⌜ Ready (now bytes) sheet ⌝ }
-    requires { ⌜ sheet ≡ judged (now bytes) .sheet ⌝ }
-    requires { ⌜ horizon ≤ longestTime ⌝ }
-    requires { ⌜ lines (now bytes) (horizon + 1) ≤ length (now cells) ⌝ }
-    ensures { λ r. ⌜ VerdictAnswers FilledByAmount (now (bytes .entry)) horizon (now (cells .entry)) r (now (cells .exit)) ⌝ }
-{
-    fill_by_amount(bytes, sheet, cells, horizon + 1);
-    let swept = sweep_by_amount(sheet, cells, horizon);
+    fill(table, bytes, sheet, cells, horizon);
+    let swept = sweep(table, sheet, cells, horizon);
     as_answer(swept)
 }
 

@@ -1,16 +1,16 @@
 // The public calls: each takes the sheet's bytes, reads them itself, works in lent memory and answers for any bytes and any numbers.
 mod answering;
-mod beginning;
 
 use answering::demand_in;
 use answering::margin_in;
 use answering::shortest_in;
-use answering::verdict_by_amount_in;
-use answering::verdict_by_interval_in;
+use answering::verdict_in;
 use beginning::begin_amount;
 use beginning::begin_interval;
 use sheet::Answer;
-ghost use Rattle.desk.specs.Calls.{DemandCall, MarginCall, ShortestCall, VerdictByIntervalCall, VerdictByAmountCall};
+use tables::Table;
+ghost use Rattle.desk.specs.Calls.{DemandCall, MarginCall, ShortestCall, VerdictCall, VerdictByIntervalCall, VerdictByAmountCall};
+ghost use Rattle.desk.specs.EitherTable.{filledBy};
 
 // The demand at an interval, and how many rows its witness has.
 pub enum DemandAnswer {
@@ -73,24 +73,6 @@ pub fn margin(bytes: &[u8], interval: u64, cells: &mut [u32]) -> MarginAnswer
     }
 }
 
-// The verdict up to a horizon from the table by interval.
-pub fn verdict_by_interval(bytes: &[u8], horizon: u64, cells: &mut [u32]) -> VerdictAnswer
-    ensures { λ r. ⌜ VerdictByIntervalCall (now (bytes .entry)) horizon (now (cells .entry)) r (now (cells .exit)) ⌝ }
-{
-    let begun = begin_interval(bytes, horizon, cells.len());
-    let answer = begun.answer;
-    let sheet = begun.sheet;
-    match answer {
-        Answer::Refused { number, place } => {
-            VerdictAnswer::Refused {
-                number: number,
-                place: place,
-            }
-        }
-        Answer::Accepted => { verdict_by_interval_in(bytes, sheet, horizon as usize, cells) }
-    }
-}
-
 // The shortest interval for an amount.
 pub fn shortest(bytes: &[u8], amount: u64, cells: &mut [u32]) -> ShortestAnswer
     ensures { λ r. ⌜ ShortestCall (now (bytes .entry)) amount (now (cells .entry)) r (now (cells .exit)) ⌝ }
@@ -109,9 +91,23 @@ pub fn shortest(bytes: &[u8], amount: u64, cells: &mut [u32]) -> ShortestAnswer
     }
 }
 
+// The verdict up to a horizon from the table by interval.
+pub fn verdict_by_interval(bytes: &[u8], horizon: u64, cells: &mut [u32]) -> VerdictAnswer
+    ensures { λ r. ⌜ VerdictByIntervalCall (now (bytes .entry)) horizon (now (cells .entry)) r (now (cells .exit)) ⌝ }
+{
+    verdict(Table::Interval, bytes, horizon, cells)
+}
+
 // The verdict up to a horizon from the table by amount.
 pub fn verdict_by_amount(bytes: &[u8], horizon: u64, cells: &mut [u32]) -> VerdictAnswer
     ensures { λ r. ⌜ VerdictByAmountCall (now (bytes .entry)) horizon (now (cells .entry)) r (now (cells .exit)) ⌝ }
+{
+    verdict(Table::Amount, bytes, horizon, cells)
+}
+
+// The verdict from either table.
+fn verdict(table: Table, bytes: &[u8], horizon: u64, cells: &mut [u32]) -> VerdictAnswer
+    ensures { λ r. ⌜ VerdictCall (filledBy table) (now (bytes .entry)) horizon (now (cells .entry)) r (now (cells .exit)) ⌝ }
 {
     let begun = begin_interval(bytes, horizon, cells.len());
     let answer = begun.answer;
@@ -123,6 +119,6 @@ pub fn verdict_by_amount(bytes: &[u8], horizon: u64, cells: &mut [u32]) -> Verdi
                 place: place,
             }
         }
-        Answer::Accepted => { verdict_by_amount_in(bytes, sheet, horizon as usize, cells) }
+        Answer::Accepted => { verdict_in(table, bytes, sheet, horizon as usize, cells) }
     }
 }

@@ -1,8 +1,8 @@
 // The field reader: it holds the caller's bytes and its place in them, and gives one field or one refusal a step.
-use sheet::reader::Step;
-use sheet::reader::field_at;
+use fields::reader::Step;
+use fields::reader::field_at;
 ghost use mathlib.Core.Path.{_≡_};
-ghost use Rattle.sheet.specs.Reading.{fieldAt};
+ghost use Rattle.fields.specs.Reading.{fieldAt};
 ghost use Rattle.fieldreader.specs.Moving.{afterField};
 
 pub struct Reader<'a> {

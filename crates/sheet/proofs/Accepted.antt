@@ -7,15 +7,15 @@ use mathlib.Core.Logic.{⊎-elim}
 use mathlib.Core.Bool.{false}
 use mathlib.Core.List.{List}
 use lib.ListN.{length}
-use Rattle.sheet.specs.Fields.{lineOf, fields}
-use Rattle.sheet.specs.Limits.{modeLimit, rowLimit, taskLimit}
+use Rattle.fields.specs.Fields.{lineOf, fields}
+use Rattle.fields.specs.Limits.{modeLimit, rowLimit, taskLimit}
 use Rattle.sheet.specs.Proper.{Bytes, ProperMode, ProperRow, ProperTask, Proper}
-use Rattle.sheet.specs.Rules.{unknownFollower}
-use Rattle.sheet.specs.Values.{emptySheet, noMode, noRow, noTask}
+use Rattle.rules.specs.Rules.{unknownFollower}
+use Rattle.fields.specs.Values.{emptySheet, noMode, noRow, noTask}
 use Rattle.sheet.specs.Judging.{refusal, judged}
 use Rattle.sheet.specs.declared.Answer.the-variants.{Accepted}
 use Rattle.sheet.specs.declared.Judged.{Judged}
-use Rattle.sheet.specs.declared.values.Sheet.{Sheet}
+use Rattle.fields.specs.declared.values.Sheet.{Sheet}
 use Rattle.sheet.proofs.Growing.{Held, Rising, held-none, rising-none, held-more, rising-more}
 use Rattle.sheet.proofs.Keeping.{Keeps, judged-keeps}
 use Rattle.sheet.proofs.KeptRules.{order-kept, followers-kept}

@@ -7,7 +7,7 @@ use mathlib.Core.Logic.{⊎-elim}
 use mathlib.Core.List.{List}
 use lib.ListN.{length, getD, take, set, replicate, length-set, length-replicate, List·getD-eq-default}
 use lib.Seq.{length-take-le, getD-set-same, getD-set-other}
-use Rattle.walks.proofs.Tests.{lt-or}
+use Rattle.meaning.proofs.Tests.{lt-or}
 
 module _ {A : Type 0} (none : A) where
   -- each of the first `count` values has F

@@ -7,20 +7,22 @@ use mathlib.Core.Bool.{true, false, true≢false}
 use lib.Dec.{T, ltb}
 use lib.ListN.{length}
 use borrow.Author.Tests.{ltb-false}
-use Rattle.sheet.specs.Deciding.{Rule, _when_, pick}
-use Rattle.sheet.specs.Fields.{isEnd}
-use Rattle.sheet.specs.Reading.{fieldAt, modeAt, rowAt, taskAt}
-use Rattle.sheet.specs.Values.{emptySheet, withLabel, withMode, withRow, withTask}
-use Rattle.sheet.specs.Rules.{outOfOrder, wrongLength, wrongRow, badText, unknownFollower, commonRules, textRules, modeRules, rowGapRules, taskRules}
+use Rattle.fields.specs.Deciding.{Rule, _when_, pick}
+use Rattle.fields.specs.Fields.{isEnd}
+use Rattle.fields.specs.Reading.{fieldAt, modeAt, rowAt, taskAt}
+use Rattle.fields.specs.Values.{emptySheet}
+use Rattle.sheet.specs.Values.{withLabel, withMode, withRow, withTask}
+use Rattle.rules.specs.Rules.{outOfOrder, wrongLength, unknownFollower, commonRules, modeRules, taskRules}
+use Rattle.sheet.specs.Content.{wrongRow, badText, textRules, rowGapRules}
 use Rattle.sheet.specs.Judging.{refusal, headRules, ownRules, fieldRules, withField, checked, endJudged, onField, walk, judged}
-use Rattle.sheet.specs.declared.fields.Kind.{Kind}
-use Rattle.sheet.specs.declared.fields.Kind.the-variants.{RefusedTag, LabelField, ModeField, RowField, TaskField, EndField, SkippedField}
-use Rattle.sheet.specs.declared.reader.Step.{Step}
-use Rattle.sheet.specs.declared.reader.Step.the-variants.{Field, Refusal}
-use Rattle.sheet.specs.declared.values.Sheet.{Sheet}
+use Rattle.fields.specs.declared.table.Kind.{Kind}
+use Rattle.fields.specs.declared.table.Kind.the-variants.{RefusedTag, LabelField, ModeField, RowField, TaskField, EndField, SkippedField}
+use Rattle.fields.specs.declared.reader.Step.{Step}
+use Rattle.fields.specs.declared.reader.Step.the-variants.{Field, Refusal}
+use Rattle.fields.specs.declared.values.Sheet.{Sheet}
 use Rattle.sheet.specs.declared.Answer.the-variants.{Accepted}
 use Rattle.sheet.specs.declared.Judged.{Judged}
-use Rattle.sheet.proofs.Deciding.{Kept, OfFile, numbered, first-numbered}
+use Rattle.fields.proofs.Deciding.{Kept, OfFile, numbered, first-numbered}
 use Rattle.sheet.proofs.Numbered.{common-says, field-numbered, field-kept}
 use Rattle.sheet.proofs.Walking.{field-in, refused-in}
 

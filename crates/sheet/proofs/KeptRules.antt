@@ -12,18 +12,19 @@ use Rattle.sets.specs.Sets.{bit, nextIn}
 use Rattle.sets.specs.declared.Next.{Next}
 use Rattle.sets.specs.declared.Next.the-variants.{At, Nothing}
 use Rattle.sets.proofs.Search.{next-none}
-use Rattle.walks.proofs.Tests.{lt-or}
-use Rattle.sheet.specs.Deciding.{pick}
-use Rattle.sheet.specs.Fields.{lineOf}
-use Rattle.sheet.specs.Limits.{gapSize}
+use Rattle.meaning.proofs.Tests.{lt-or}
+use Rattle.fields.specs.Deciding.{pick}
+use Rattle.fields.specs.Fields.{lineOf}
+use Rattle.fields.specs.Limits.{gapSize}
 use Rattle.sheet.specs.Proper.{InRange}
-use Rattle.sheet.specs.Reading.{wordAt}
-use Rattle.sheet.specs.Rules.{outOfOrder, badRpm, noTicks, gapShorter, isAt, unknownIn, unknownFollower}
-use Rattle.sheet.specs.Values.{noRow}
-use Rattle.sheet.specs.declared.units.Rpm.{Rpm}
-use Rattle.sheet.specs.declared.units.Ticks.{Ticks}
-use Rattle.sheet.specs.declared.values.Row.{Row}
-use Rattle.sheet.proofs.Deciding.{neither, any-false}
+use Rattle.fields.specs.Reading.{wordAt}
+use Rattle.rules.specs.Rules.{outOfOrder, badRpm, noTicks, isAt, unknownIn, unknownFollower}
+use Rattle.sheet.specs.Content.{gapShorter}
+use Rattle.fields.specs.Values.{noRow}
+use Rattle.fields.specs.declared.units.Rpm.{Rpm}
+use Rattle.fields.specs.declared.units.Ticks.{Ticks}
+use Rattle.fields.specs.declared.values.Row.{Row}
+use Rattle.fields.proofs.Deciding.{neither, any-false}
 
 -- 3: no required kind was passed over
 pub order-kept : (last tag k : ℕ) → outOfOrder last tag ≡ false → lineOf k .required ≡ true → k < tag → k ≤ last

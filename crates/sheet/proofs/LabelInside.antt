@@ -3,9 +3,9 @@ use Prim.Native.Nat.{ℕ, _+_, _≤_}
 use native.Mathlib.Omega.{arith}
 use mathlib.Core.List.{List}
 use lib.ListN.{length}
-use Rattle.sheet.specs.Values.{emptySheet}
+use Rattle.fields.specs.Values.{emptySheet}
 use Rattle.sheet.specs.Judging.{refusal, judged}
-use Rattle.sheet.specs.declared.values.Sheet.{Sheet}
+use Rattle.fields.specs.declared.values.Sheet.{Sheet}
 use Rattle.sheet.proofs.Keeping.{Keeps, judged-keeps}
 use Rattle.sheet.proofs.Walking.{field-in}
 

@@ -1,4 +1,3 @@
-pub mod Deciding
 pub mod Numbered
 pub mod Walking
 pub mod KeptRules
@@ -9,5 +8,6 @@ pub mod Growing
 pub mod ProperFields
 pub mod Accepted
 pub mod ProperGraph
+pub mod AcceptedReady
 pub mod ProperTasks
 pub mod Determined

@@ -5,19 +5,20 @@ use mathlib.Core.Bool.{Bool, false}
 use mathlib.Core.List.{List}
 use lib.Dec.{T}
 use borrow.Author.Tests.{ltb-false, leb-false, eqb-true, not-false}
-use Rattle.sheet.specs.Deciding.{firstBroken}
-use Rattle.sheet.specs.Fields.{lineOf, fields}
+use Rattle.fields.specs.Deciding.{firstBroken}
+use Rattle.fields.specs.Fields.{lineOf, fields}
 use Rattle.sheet.specs.Judging.{headRules, ownRules, fieldRules}
-use Rattle.sheet.specs.Limits.{headSize, gapSize, rowLimit}
-use Rattle.sheet.specs.Reading.{longAt}
-use Rattle.sheet.specs.Rules.{outOfOrder, wrongLength, wrongRow, unlikeSet, full, followerCount, commonRules, textRules, modeRules, rowRules, rowGapRules, taskRules}
-use Rattle.sheet.specs.declared.fields.Kind.{Kind}
-use Rattle.sheet.specs.declared.fields.Kind.the-variants.{RefusedTag, LabelField, ModeField, RowField, TaskField, EndField, SkippedField}
-use Rattle.sheet.specs.declared.values.Mode.{Mode}
-use Rattle.sheet.specs.declared.values.Row.{Row}
-use Rattle.sheet.specs.declared.values.Task.{Task}
-use Rattle.sheet.specs.declared.values.Tally.{Tally}
-use Rattle.sheet.proofs.Deciding.{Kept, numbered, all-kept, neither, both-kept, both-numbered}
+use Rattle.fields.specs.Limits.{headSize, gapSize, modeLimit, rowLimit, taskLimit}
+use Rattle.fields.specs.Reading.{longAt}
+use Rattle.rules.specs.Rules.{outOfOrder, wrongLength, unlikeSet, full, followerCount, commonRules, modeRules, rowRules, taskRules}
+use Rattle.sheet.specs.Content.{wrongRow, textRules, rowGapRules}
+use Rattle.fields.specs.declared.table.Kind.{Kind}
+use Rattle.fields.specs.declared.table.Kind.the-variants.{RefusedTag, LabelField, ModeField, RowField, TaskField, EndField, SkippedField}
+use Rattle.fields.specs.declared.values.Mode.{Mode}
+use Rattle.fields.specs.declared.values.Row.{Row}
+use Rattle.fields.specs.declared.values.Task.{Task}
+use Rattle.fields.specs.declared.values.Tally.{Tally}
+use Rattle.fields.proofs.Deciding.{Kept, numbered, all-kept, neither, both-kept, both-numbered}
 
 module _ (tag last count : ℕ) (wrong : Bool) where
   pub common-numbered : T (numbered (commonRules tag last wrong count))
@@ -83,15 +84,6 @@ module _ (bytes : List ℕ) (tally : Tally) (start size : ℕ) where
   pub field-numbered : (kind : Kind) → T (numbered (fieldRules bytes tally kind start size))
   field-numbered kind = both-numbered (headRules bytes tally kind start size) (ownRules bytes tally kind start size) (head-numbered kind) (own-numbered kind)
 
-  -- a row that breaks none of its first rules has its head and its gaps, and there is room for one more
-  pub row-fits : Kept (headRules bytes tally RowField start size)
-      → (headSize ≤ size) × (size ≡ headSize + gapSize * followerCount (longAt bytes (start + 4))) × (tally .rows < rowLimit)
-  unfolding headRules lineOf fields
-  row-fits k =
-      let says = common-says _ _ _ _ k in
-      let long = row-length bytes start size (says .1) in
-      (long .0, long .1, says .2)
-
   module _ (kind : Kind) where
     pub head-kept : firstBroken (headRules bytes tally kind start size) ≡ 0 → Kept (headRules bytes tally kind start size)
     head-kept e = all-kept (headRules bytes tally kind start size) (head-numbered kind) e
@@ -102,3 +94,22 @@ module _ (bytes : List ℕ) (tally : Tally) (start size : ℕ) where
     -- where no rule is broken, none of the first is
     pub first-kept : firstBroken (fieldRules bytes tally kind start size) ≡ 0 → Kept (headRules bytes tally kind start size)
     first-kept e = field-kept (all-kept (fieldRules bytes tally kind start size) (field-numbered kind) e) .0
+
+    -- a mode that breaks none of its first rules has its numbers, and there is room for one more
+    pub mode-fits : kind ≡ ModeField → Kept (headRules bytes tally kind start size) → (4 ≤ size) × (tally .modes < modeLimit)
+    unfolding headRules lineOf fields
+    mode-fits e k = common-fits 2 _ _ _ (rw e at k)
+
+    -- a row has its head and its gaps
+    pub row-fits : kind ≡ RowField → Kept (headRules bytes tally kind start size)
+        → (headSize ≤ size) × (size ≡ headSize + gapSize * followerCount (longAt bytes (start + 4))) × (tally .rows < rowLimit)
+    unfolding headRules lineOf fields
+    row-fits e k =
+        let says = common-says _ _ _ _ (rw e at k) in
+        let long = row-length bytes start size (says .1) in
+        (long .0, long .1, says .2)
+
+    -- a fixed task has its numbers
+    pub task-fits : kind ≡ TaskField → Kept (headRules bytes tally kind start size) → (6 ≤ size) × (tally .tasks < taskLimit)
+    unfolding headRules lineOf fields
+    task-fits e k = common-fits 4 _ _ _ (rw e at k)

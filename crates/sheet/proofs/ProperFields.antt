@@ -7,15 +7,16 @@ use mathlib.Core.List.{List}
 use lib.ListN.{length}
 use borrow.Author.Tests.{leb-false, ltb-false}
 use Rattle.sets.proofs.Bits.{bit-within}
-use Rattle.walks.specs.Demand.{longestTime}
-use Rattle.sheet.specs.Limits.{rowLimit}
+use Rattle.meaning.specs.Demand.{longestTime}
+use Rattle.fields.specs.Limits.{rowLimit}
 use Rattle.sheet.specs.Proper.{Bytes, Positive, ProperMode, ProperRow, ProperTask}
-use Rattle.sheet.specs.Reading.{wordAt, longAt, ticksAt, modeAt, rowAt, taskAt}
-use Rattle.sheet.specs.Rules.{noTicks, wrongRow, modeRules, rowRules, rowGapRules, taskRules}
-use Rattle.sheet.specs.declared.values.Mode.{Mode}
-use Rattle.sheet.specs.declared.values.Row.{Row}
-use Rattle.sheet.specs.declared.values.Tally.{Tally}
-use Rattle.sheet.proofs.Deciding.{Kept}
+use Rattle.fields.specs.Reading.{wordAt, longAt, ticksAt, modeAt, rowAt, taskAt}
+use Rattle.rules.specs.Rules.{noTicks, modeRules, rowRules, taskRules}
+use Rattle.sheet.specs.Content.{wrongRow, rowGapRules}
+use Rattle.fields.specs.declared.values.Mode.{Mode}
+use Rattle.fields.specs.declared.values.Row.{Row}
+use Rattle.fields.specs.declared.values.Tally.{Tally}
+use Rattle.fields.proofs.Deciding.{Kept}
 use Rattle.sheet.proofs.KeptRules.{rpm-kept, ticks-kept, gaps-kept}
 use Rattle.sheet.proofs.Numbered.{row-length}
 

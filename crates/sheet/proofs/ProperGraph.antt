@@ -12,17 +12,18 @@ use borrow.Author.Tests.{leb-false}
 use Rattle.sets.specs.Sets.{member}
 use Rattle.sets.proofs.Bits.{member-true}
 use Rattle.sets.proofs.Counts.{below-lt}
-use Rattle.walks.specs.Demand.{longestTime}
-use Rattle.walks.specs.Graph.{Sound}
-use Rattle.walks.proofs.Tests.{bool-or}
-use Rattle.sheet.specs.Deciding.{pick}
+use Rattle.meaning.specs.Demand.{longestTime}
+use Rattle.meaning.specs.Graph.{Sound}
+use Rattle.meaning.proofs.Tests.{bool-or}
+use Rattle.fields.specs.Deciding.{pick}
 use Rattle.sheet.specs.Meaning.{rowOf, lengthOf, gapOf, graphOf}
 use Rattle.sheet.specs.Proper.{Positive, ProperMode, Proper}
-use Rattle.sheet.specs.Values.{noMode, jobLength}
-use Rattle.sheet.specs.declared.units.Rpm.{Rpm}
-use Rattle.sheet.specs.declared.units.Ticks.{Ticks}
-use Rattle.sheet.specs.declared.values.Mode.{Mode}
-use Rattle.sheet.specs.declared.values.Sheet.{Sheet}
+use Rattle.fields.specs.Values.{noMode}
+use Rattle.sheet.specs.Values.{jobLength}
+use Rattle.fields.specs.declared.units.Rpm.{Rpm}
+use Rattle.fields.specs.declared.units.Ticks.{Ticks}
+use Rattle.fields.specs.declared.values.Mode.{Mode}
+use Rattle.fields.specs.declared.values.Sheet.{Sheet}
 use Rattle.sheet.proofs.Growing.{all-there}
 
 -- where a boundary is at or above the speed, the job length is that of one of the modes

@@ -5,15 +5,15 @@ use mathlib.Core.Path.{_≡_, _∙_, refl, ap}
 use mathlib.Core.List.{List, [], _∷_}
 use lib.ListN.{length, getD, take}
 use lib.Seq.{getD-take}
-use Rattle.walks.specs.Demand.{longestTime}
-use Rattle.walks.specs.Fixed as fixed
-use Rattle.walks.proofs.Bounds.{fixed-fits}
-use Rattle.sheet.specs.Limits.{taskLimit}
+use Rattle.meaning.specs.Demand.{longestTime}
+use Rattle.meaning.specs.Fixed as fixed
+use Rattle.meaning.proofs.Bounds.{fixed-fits}
+use Rattle.fields.specs.Limits.{taskLimit}
 use Rattle.sheet.specs.Meaning.{timesOf, eachTask, tasksOf}
 use Rattle.sheet.specs.Proper.{ProperTask, Proper}
-use Rattle.sheet.specs.Values.{noTask}
-use Rattle.sheet.specs.declared.values.Task.{Task}
-use Rattle.sheet.specs.declared.values.Sheet.{Sheet}
+use Rattle.fields.specs.Values.{noTask}
+use Rattle.fields.specs.declared.values.Task.{Task}
+use Rattle.fields.specs.declared.values.Sheet.{Sheet}
 use Rattle.sheet.proofs.Growing.{all-there}
 
 each-length : (tasks : List Task) → length (eachTask tasks) ≡ length tasks

@@ -4,11 +4,11 @@ use native.Mathlib.Omega.{arith}
 use mathlib.Core.Path.{_≡_, refl}
 use mathlib.Core.List.{List}
 use lib.ListN.{length}
-use Rattle.sheet.specs.Values.{emptySheet}
+use Rattle.fields.specs.Values.{emptySheet}
 use Rattle.sheet.specs.Judging.{refusal, judged}
 use Rattle.sheet.specs.declared.Answer.the-variants.{Refused}
 use Rattle.sheet.specs.declared.Judged.{Judged}
-use Rattle.sheet.proofs.Deciding.{OfFile}
+use Rattle.fields.proofs.Deciding.{OfFile}
 use Rattle.sheet.proofs.Keeping.{Keeps, judged-keeps}
 
 -- where an answer refuses, its number and place are such, and it has no values

@@ -7,16 +7,16 @@ use mathlib.Core.Bool.{Bool, true, false}
 use lib.Dec.{ltb}
 use lib.ListN.{length, getD}
 use borrow.Author.Tests.{ltb-false}
-use Rattle.sheet.specs.Deciding.{pick, firstBroken}
-use Rattle.sheet.specs.Fields.{kindOf, isRefused, isEnd}
-use Rattle.sheet.specs.Reading.{fieldAt, wordAt}
+use Rattle.fields.specs.Deciding.{pick, firstBroken}
+use Rattle.fields.specs.Fields.{kindOf, isRefused, isEnd}
+use Rattle.fields.specs.Reading.{fieldAt, wordAt}
 use Rattle.sheet.specs.Judging.{fieldRules, withField, checked, endJudged, onField, walk, refusal}
-use Rattle.sheet.specs.declared.fields.Kind.{Kind}
-use Rattle.sheet.specs.declared.reader.Step.{Step}
-use Rattle.sheet.specs.declared.reader.Step.the-variants.{Field, Refusal}
-use Rattle.sheet.specs.declared.values.Sheet.{Sheet}
+use Rattle.fields.specs.declared.table.Kind.{Kind}
+use Rattle.fields.specs.declared.reader.Step.{Step}
+use Rattle.fields.specs.declared.reader.Step.the-variants.{Field, Refusal}
+use Rattle.fields.specs.declared.values.Sheet.{Sheet}
 use Rattle.sheet.specs.declared.Judged.{Judged}
-use Rattle.sheet.proofs.Deciding.{OfFile, by-broken, by-none}
+use Rattle.fields.proofs.Deciding.{OfFile, by-broken, by-none}
 use Rattle.sheet.proofs.Numbered.{field-numbered}
 
 apart : (n p a l x : ℕ) (k : Kind) → Refusal n p ≡ Field k a l x → ⊥

@@ -4,17 +4,19 @@ use mathlib.Core.List.{List, [], _∷_, _++_}
 use mathlib.Core.Bool.{true}
 use lib.ListN.{length, take, drop}
 use lib.Dec.{ltb}
-use Rattle.sheet.specs.Deciding.{Rule, _when_, pick, judgedBy}
-use Rattle.sheet.specs.Fields.{isEnd}
-use Rattle.sheet.specs.Reading.{fieldAt, modeAt, rowAt, taskAt}
-use Rattle.sheet.specs.Values.{emptySheet, withLabel, withMode, withRow, withTask}
-use Rattle.sheet.specs.Rules.{wrongLength, wrongRow, unknownFollower, commonRules, textRules, modeRules, rowGapRules, taskRules}
-use Rattle.sheet.specs.declared.fields.Kind.{Kind}
-use Rattle.sheet.specs.declared.fields.Kind.the-variants.{RefusedTag, LabelField, ModeField, RowField, TaskField, EndField, SkippedField}
-use Rattle.sheet.specs.declared.reader.Step.{Step}
-use Rattle.sheet.specs.declared.reader.Step.the-variants.{Field, Refusal}
-use Rattle.sheet.specs.declared.values.Sheet.{Sheet}
-use Rattle.sheet.specs.declared.values.Tally.{Tally}
+use Rattle.fields.specs.Deciding.{Rule, _when_, pick, judgedBy}
+use Rattle.fields.specs.Fields.{isEnd}
+use Rattle.fields.specs.Reading.{fieldAt, modeAt, rowAt, taskAt}
+use Rattle.fields.specs.Values.{emptySheet}
+use Rattle.sheet.specs.Values.{withLabel, withMode, withRow, withTask}
+use Rattle.rules.specs.Rules.{wrongLength, unknownFollower, commonRules, modeRules, taskRules}
+use Rattle.sheet.specs.Content.{wrongRow, textRules, rowGapRules}
+use Rattle.fields.specs.declared.table.Kind.{Kind}
+use Rattle.fields.specs.declared.table.Kind.the-variants.{RefusedTag, LabelField, ModeField, RowField, TaskField, EndField, SkippedField}
+use Rattle.fields.specs.declared.reader.Step.{Step}
+use Rattle.fields.specs.declared.reader.Step.the-variants.{Field, Refusal}
+use Rattle.fields.specs.declared.values.Sheet.{Sheet}
+use Rattle.fields.specs.declared.values.Tally.{Tally}
 use Rattle.sheet.specs.declared.Answer.{Answer}
 use Rattle.sheet.specs.declared.Answer.the-variants.{Accepted, Refused}
 use Rattle.sheet.specs.declared.Judged.{Judged}

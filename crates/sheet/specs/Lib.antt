@@ -1,9 +1,6 @@
-pub mod Deciding
-pub mod Limits
-pub mod Fields
-pub mod Reading
+pub mod Content
 pub mod Values
-pub mod Rules
 pub mod Judging
 pub mod Meaning
 pub mod Proper
+pub mod Ready

@@ -3,15 +3,16 @@ use Prim.Native.Nat.{ℕ, _+_, _*_}
 use mathlib.Core.List.{List, [], _∷_}
 use lib.ListN.{getD, take}
 use Rattle.sets.specs.Sets.{member, below}
-use Rattle.walks.specs.Graph.{Graph}
-use Rattle.walks.specs.Fixed as fixed
-use Rattle.sheet.specs.Deciding.{pick}
-use Rattle.sheet.specs.Limits.{gapSize}
-use Rattle.sheet.specs.Reading.{wordAt}
-use Rattle.sheet.specs.Values.{noRow, jobLength}
-use Rattle.sheet.specs.declared.values.Row.{Row}
-use Rattle.sheet.specs.declared.values.Task.{Task}
-use Rattle.sheet.specs.declared.values.Sheet.{Sheet}
+use Rattle.meaning.specs.Graph.{Graph}
+use Rattle.meaning.specs.Fixed as fixed
+use Rattle.fields.specs.Deciding.{pick}
+use Rattle.fields.specs.Limits.{gapSize}
+use Rattle.fields.specs.Reading.{wordAt}
+use Rattle.fields.specs.Values.{noRow}
+use Rattle.sheet.specs.Values.{jobLength}
+use Rattle.fields.specs.declared.values.Row.{Row}
+use Rattle.fields.specs.declared.values.Task.{Task}
+use Rattle.fields.specs.declared.values.Sheet.{Sheet}
 
 -- the row of a number
 abbrev pub rowOf : Sheet → ℕ → Row

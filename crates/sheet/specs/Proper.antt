@@ -4,18 +4,18 @@ use mathlib.Core.Path.{_≡_}
 use mathlib.Core.List.{List}
 use lib.ListN.{length, getD}
 use Rattle.sets.specs.Sets.{bit}
-use Rattle.walks.specs.Demand.{longestTime}
-use Rattle.sheet.specs.Limits.{modeLimit, rowLimit, taskLimit, rpmLimit, gapSize}
+use Rattle.meaning.specs.Demand.{longestTime}
+use Rattle.fields.specs.Limits.{modeLimit, rowLimit, taskLimit, rpmLimit, gapSize}
 use Rattle.sheet.specs.Meaning.{rowOf}
-use Rattle.sheet.specs.Reading.{wordAt}
-use Rattle.sheet.specs.Rules.{followerCount}
-use Rattle.sheet.specs.Values.{noMode, noTask}
-use Rattle.sheet.specs.declared.units.Rpm.{Rpm}
-use Rattle.sheet.specs.declared.units.Ticks.{Ticks}
-use Rattle.sheet.specs.declared.values.Mode.{Mode}
-use Rattle.sheet.specs.declared.values.Row.{Row}
-use Rattle.sheet.specs.declared.values.Task.{Task}
-use Rattle.sheet.specs.declared.values.Sheet.{Sheet}
+use Rattle.fields.specs.Reading.{wordAt}
+use Rattle.rules.specs.Rules.{followerCount}
+use Rattle.fields.specs.Values.{noMode, noTask}
+use Rattle.fields.specs.declared.units.Rpm.{Rpm}
+use Rattle.fields.specs.declared.units.Ticks.{Ticks}
+use Rattle.fields.specs.declared.values.Mode.{Mode}
+use Rattle.fields.specs.declared.values.Row.{Row}
+use Rattle.fields.specs.declared.values.Task.{Task}
+use Rattle.fields.specs.declared.values.Sheet.{Sheet}
 
 -- a list of bytes, as every slice of them is
 abbrev pub Bytes : List ℕ → Type 0

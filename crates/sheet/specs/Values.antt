@@ -1,45 +1,15 @@
--- The values of a sheet: nothing yet, one field more, and the job length of a speed.
+-- The values of a sheet: one field more, and the job length of a speed.
 use Prim.Native.Nat.{ℕ, _+_}
 use mathlib.Core.List.{List, [], _∷_}
-use lib.ListN.{set, replicate}
+use lib.ListN.{set}
 use lib.Dec.{leb}
-use Rattle.sheet.specs.Deciding.{pick}
-use Rattle.sheet.specs.Limits.{modeLimit, rowLimit, taskLimit}
-use Rattle.sheet.specs.declared.units.Rpm.{Rpm}
-use Rattle.sheet.specs.declared.units.Ticks.{Ticks}
-use Rattle.sheet.specs.declared.values.Mode.{Mode}
-use Rattle.sheet.specs.declared.values.Row.{Row}
-use Rattle.sheet.specs.declared.values.Task.{Task}
-use Rattle.sheet.specs.declared.values.Sheet.{Sheet}
-
--- a mode, a row and a task of zeros, which the arrays hold past their count
-abbrev pub noMode : Mode
-noMode = record { boundary = record { 0 = 0 }; length = record { 0 = 0 } }
-
-abbrev pub noRow : Row
-noRow = record { speed = record { 0 = 0 }; deadline = record { 0 = 0 }; followers = 0; gaps = 0 }
-
-abbrev pub noTask : Task
-noTask = record { length = record { 0 = 0 }; period = record { 0 = 0 }; deadline = record { 0 = 0 } }
-
--- a sheet of which nothing is read yet
-unfoldable pub emptySheet : Sheet
-emptySheet =
-    record {
-      label = record { start = 0; size = 0 };
-      tally =
-          record {
-            last = 0;
-            modes = 0;
-            rows = 0;
-            tasks = 0;
-            top = record { 0 = 0 };
-            fastest = record { 0 = 0 };
-          };
-      modes = replicate modeLimit noMode;
-      rows = replicate rowLimit noRow;
-      tasks = replicate taskLimit noTask;
-    }
+use Rattle.fields.specs.Deciding.{pick}
+use Rattle.fields.specs.declared.units.Rpm.{Rpm}
+use Rattle.fields.specs.declared.units.Ticks.{Ticks}
+use Rattle.fields.specs.declared.values.Mode.{Mode}
+use Rattle.fields.specs.declared.values.Row.{Row}
+use Rattle.fields.specs.declared.values.Task.{Task}
+use Rattle.fields.specs.declared.values.Sheet.{Sheet}
 
 -- the sheet with its label: a part of the file
 abbrev pub withLabel : Sheet → ℕ → ℕ → Sheet

@@ -1,33 +1,33 @@
 // The rules of each kind of field on the file's bytes, and what a field adds to the sheet.
 use crate::Answer;
 use crate::Judged;
-use crate::fields::Kind;
-use crate::reader::long_at;
-use crate::reader::word_at;
-use crate::rules::bad_byte;
-use crate::rules::common_number;
-use crate::rules::mode_number;
-use crate::rules::row_number;
-use crate::rules::task_number;
-use crate::rules::unknown_in;
-use crate::rules::unlike_set;
-use crate::rules::wrong_length;
-use crate::units::Rpm;
-use crate::units::Ticks;
-use crate::values::Mode;
-use crate::values::Part;
-use crate::values::Row;
-use crate::values::Sheet;
-use crate::values::Tally;
-use crate::values::Task;
-use crate::values::row_of;
+use fields::reader::long_at;
+use fields::reader::word_at;
+use fields::table::Kind;
+use fields::units::Rpm;
+use fields::units::Ticks;
+use fields::values::Mode;
+use fields::values::Part;
+use fields::values::Row;
+use fields::values::Sheet;
+use fields::values::Tally;
+use fields::values::Task;
+use rules::bad_byte;
+use rules::common_number;
+use rules::mode_number;
+use rules::row_number;
+use rules::task_number;
+use rules::unknown_follower;
+use rules::unlike_set;
+use rules::wrong_length;
 ghost use mathlib.Core.Path.{_≡_};
 ghost use Prim.Native.Nat.{_+_, _*_, _<_, _≤_};
 ghost use lib.ListN.{length};
-ghost use Rattle.sheet.specs.Deciding.{firstBroken};
-ghost use Rattle.sheet.specs.Limits.{modeLimit, rowLimit, taskLimit, headSize, gapSize};
-ghost use Rattle.sheet.specs.Reading.{modeAt, rowAt, taskAt};
-ghost use Rattle.sheet.specs.Rules.{followerCount, badText, gapShorter, wrongRow, unknownFollower, textRules, rowGapRules};
+ghost use Rattle.fields.specs.Deciding.{firstBroken};
+ghost use Rattle.fields.specs.Limits.{modeLimit, rowLimit, taskLimit, headSize, gapSize};
+ghost use Rattle.fields.specs.Reading.{modeAt, rowAt, taskAt};
+ghost use Rattle.rules.specs.Rules.{followerCount};
+ghost use Rattle.sheet.specs.Content.{badText, gapShorter, wrongRow, textRules, rowGapRules};
 ghost use Rattle.sheet.specs.Values.{withLabel, withMode, withRow, withTask};
 ghost use Rattle.sheet.specs.Judging.{refusal, headRules, ownRules, fieldRules, withField, endJudged};
 
@@ -188,21 +188,6 @@ fn gap_shorter(bytes: &[u8], place: usize, count: usize, bound: Ticks) -> bool
             return true;
         }
         passed += 1;
-    }
-    false
-}
-
-// Rule 9: one of `count` rows names a row that does not exist.
-fn unknown_follower(rows: [Row; Sheet::ROWS], count: usize) -> bool
-    ensures { λ r. ⌜ r ≡ unknownFollower rows count ⌝ }
-{
-    let mut number: usize = 0;
-    while number < count {
-        let row = row_of(rows, number);
-        if unknown_in(row.followers, count) {
-            return true;
-        }
-        number += 1;
     }
     false
 }

@@ -1,20 +1,15 @@
 // The sheet judged: any bytes are read to the end, and accepted with their values or refused by the first broken rule.
-pub mod fields;
-pub mod judging;
+mod judging;
 pub mod modes;
-pub mod reader;
-pub mod rules;
-pub mod units;
-pub mod values;
 
-use fields::is_end;
+use fields::reader::Step;
+use fields::reader::field_at;
+use fields::table::is_end;
+use fields::values::Sheet;
 use judging::field_number;
 use judging::judge_end;
 use judging::refused;
 use judging::with_field;
-use reader::Step;
-use reader::field_at;
-use values::Sheet;
 ghost use mathlib.Core.Path.{_≡_};
 ghost use Rattle.sheet.specs.Judging.{judged, labelOf};
 

@@ -1,8 +1,8 @@
 // The job length of a speed.
-use crate::units::Rpm;
-use crate::units::Ticks;
-use crate::values::Mode;
-use crate::values::Sheet;
+use fields::units::Rpm;
+use fields::units::Ticks;
+use fields::values::Mode;
+use fields::values::Sheet;
 ghost use mathlib.Core.Path.{_≡_};
 ghost use lib.ListN.{take};
 ghost use Rattle.sheet.specs.Values.{jobLength};

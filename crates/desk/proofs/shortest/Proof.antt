@@ -1,10 +1,13 @@
 -- `shortest` meets its contract: it refuses as it begins, or answers as `shortest_in` does.
-use Rattle.desk.proofs.Calling.{GoesOn, goes-on, room-enough, shortest-refused, shortest-answered, amount-some}
+use Rattle.beginning.proofs.GoingOn.{GoesOn, goes-on, room-enough, goes-answering}
+use Rattle.desk.specs.Calls.{ShortestCall}
+use Rattle.beginning.proofs.Beginnings.{begun-refused, amount-some}
 use Rattle.desk.proofs.shortest.Statement.{statement}
-use Rattle.desk.specs.Calls.{badAmount}
+use Rattle.beginning.specs.Beginning.{badAmount}
 use borrow.Author.Needs.{needs}
 use denote.Ref.{now}
 use lib.ListN.{length}
+use mathlib.Core.Path.{refl}
 use native.Mathlib.Omega.{arith}
 use Rattle.desk.proofs.shortest.Tie as tie
 
@@ -30,13 +33,17 @@ shortest-in-requires c κs =
     (g .ready, (g .same, (amount-some _ (g .in-range), room-enough _ _ _ _ _ g)))
 
 returns : tie.Need-returns
-returns c = shortest-refused _ _ _ (c .before .before .before .before .begin-amount .result) _ _ (c .before .before .before .before .begin-amount .ensures) (c .before .answer .given .1)
+unfolding ShortestCall
+returns c =
+    let b = c .before .before .before .before .begin-amount in
+    begun-refused _ _ _ _ (b .result) (b .ensures) _ _ (c .before .answer .given .1) _ _ (refl, refl)
 
 same-length : tie.Need-same-length
 same-length c = search needs
 
 returns-2 : tie.Need-returns-2
-returns-2 c = shortest-answered _ _ _ _ _ _ (going (c .before .before .before .before)) (c .before .before .shortest-in .ensures)
+unfolding ShortestCall
+returns-2 c = goes-answering _ _ _ _ _ (going (c .before .before .before .before)) _ _ (c .before .before .shortest-in .ensures)
 
 pub shortest-spec : {M : Type 1} → statement M
 shortest-spec =

@@ -2,7 +2,7 @@
 use Prim.Native.Nat.{_+_, _-_, _/_, _≤_}
 use borrow.Author.Needs.{needs}
 use native.Mathlib.Omega.{arith}
-use Rattle.walks.specs.Demand.{longestTime}
+use Rattle.meaning.specs.Demand.{longestTime}
 use Rattle.demand.proofs.Horizons.{lines-fit, fit-lines}
 use Rattle.demand.proofs.steps.horizon_of.Statement.{statement}
 use Rattle.demand.proofs.steps.horizon_of.Tie as tie

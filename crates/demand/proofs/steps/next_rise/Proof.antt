@@ -5,7 +5,7 @@ use mathlib.Core.Logic.{⊎-elim}
 use mathlib.Core.Path.{_≡_}
 use native.Mathlib.Nat.{add-sub-cancel}
 use native.Mathlib.Omega.{arith}
-use Rattle.walks.proofs.Tests.{lt-or}
+use Rattle.meaning.proofs.Tests.{lt-or}
 use Rattle.demand.proofs.Horizons.{lines-upto}
 use Rattle.demand.specs.Rising.{demandIn, Rises}
 use Rattle.demand.proofs.steps.next_rise.Statement.{statement}

@@ -1,6 +1,6 @@
 -- `as_answer` meets its contract, case by case.
-use Rattle.cells.specs.Sweeping.{verdictOf}
-use Rattle.cells.specs.declared.sweep.Swept.{Swept}
+use Rattle.overruns.specs.Sweeping.{verdictOf}
+use Rattle.overruns.specs.declared.sweep.Swept.{Swept}
 use Rattle.desk.proofs.answering.as_answer.Statement.{statement}
 use Rattle.desk.specs.Calls.{verdictAnswer}
 use borrow.Author.Needs.{needs}

@@ -1,10 +1,10 @@
 -- `demand_in` meets its contract: what it reads off the filled lines is the demand and its witness.
 use Prim.Native.Nat.{ℕ, _+_, _≤_, _<_}
-use Rattle.cells.specs.Lines.{HasLines}
+use Rattle.tables.specs.Lines.{HasLines}
 use Rattle.desk.proofs.Telling.{room-told, lines-told, demand-too-long, demand-written}
 use Rattle.desk.proofs.answering.demand_in.Statement.{statement}
 use Rattle.sheet.specs.Meaning.{graphOf}
-use Rattle.walks.specs.Cells.{ByInterval}
+use Rattle.meaning.specs.Cells.{ByInterval}
 use borrow.Author.Needs.{needs}
 use denote.Ref.{now}
 use lib.ListN.{length}

@@ -1,6 +1,6 @@
 -- `less` meets its contract: both numbers are small enough that their difference is a signed one.
 use Rattle.desk.proofs.answering.less.Statement.{statement}
-use Rattle.walks.proofs.Differences.{sub-fits64, sub-is64}
+use Rattle.meaning.proofs.Differences.{sub-fits64, sub-is64}
 use borrow.Author.Needs.{needs}
 use Rattle.desk.proofs.answering.less.Tie as tie
 

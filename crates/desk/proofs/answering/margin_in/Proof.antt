@@ -1,11 +1,11 @@
 -- `margin_in` meets its contract: what it reads off the filled lines is the demand, and the two demands together fit well.
 use Prim.Native.Nat.{_^_, ℕ, _+_, _<_}
-use Rattle.cells.specs.Lines.{HasLines}
+use Rattle.tables.specs.Lines.{HasLines}
 use Rattle.desk.proofs.Telling.{room-told, lines-told, margin-told, difference-kept}
 use Rattle.desk.proofs.answering.margin_in.Statement.{statement}
 use Rattle.sheet.proofs.ProperTasks.{tasks-fit}
 use Rattle.sheet.specs.Meaning.{graphOf}
-use Rattle.walks.specs.Cells.{ByInterval}
+use Rattle.meaning.specs.Cells.{ByInterval}
 use borrow.Author.Needs.{needs}
 use denote.Ref.{now}
 use lib.IntN.{ℤ}

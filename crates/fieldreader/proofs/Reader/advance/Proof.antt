@@ -31,7 +31,7 @@ use denote.Triple.Entry.{onEntry}
 use denote.Triple.Spec.{Meets, tripleOf}
 use denote.Triple.Table.{entered, cited}
 use denote.Triple.Walked.{says, Stays, walkOf, Walks, ends-at, walked, walk-meets}
-use Rattle.sheet.specs.Reading.{fieldAt}
+use Rattle.fields.specs.Reading.{fieldAt}
 use Rattle.fieldreader.specs.Moving.{afterField}
 use Rattle.fieldreader.specs.declared.Reader.{Reader}
 use Rattle.fieldreader.proofs.Holding.{Held, reader-value, reader-tells, kept, kept-goes, bytes-own, reader-own, passed, token, typed, reader-twice, opened, made, lends}

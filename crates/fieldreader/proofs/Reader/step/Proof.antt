@@ -27,14 +27,14 @@ use denote.Triple.Entry.{onEntry}
 use denote.Triple.Spec.{Meets, tripleOf}
 use denote.Triple.Table.{entered, cited}
 use denote.Triple.Walked.{says, Stays, walkOf, Walks, ends-at, walked, walk-meets}
-use Rattle.sheet.specs.Reading.{fieldAt}
-use Rattle.sheet.specs.declared.reader.Step.{Step}
-use Rattle.sheet.proofs.reader.Step as step-type
-use Rattle.sheet.proofs.reader.Step.Laws as step-laws
-use Rattle.sheet.proofs.reader.field_at as field-at
-use Rattle.sheet.proofs.reader.field_at.Met as field-at-met
-use Rattle.sheet.proofs.reader.field_at.Symbol as field-at-symbol
-use Rattle.sheet.proofs.reader.field_at.Symbol.{name as #sheet·reader·field-at}
+use Rattle.fields.specs.Reading.{fieldAt}
+use Rattle.fields.specs.declared.reader.Step.{Step}
+use Rattle.fields.proofs.reader.Step as step-type
+use Rattle.fields.proofs.reader.Step.Laws as step-laws
+use Rattle.fields.proofs.reader.field_at as field-at
+use Rattle.fields.proofs.reader.field_at.Met as field-at-met
+use Rattle.fields.proofs.reader.field_at.Symbol as field-at-symbol
+use Rattle.fields.proofs.reader.field_at.Symbol.{name as #fields·reader·field-at}
 use Rattle.fieldreader.specs.declared.Reader.{Reader}
 use Rattle.fieldreader.proofs.Holding.{Held, reader-value, reader-tells, kept, kept-goes, reader-own, passed, token, typed, lends}
 use Rattle.fieldreader.proofs.Reader.step as step
@@ -90,7 +90,7 @@ module _ {M : Type 1} (𝓤 : URA M) (H : Heap 𝓤) (A : Atoms 𝓤) (mem : Mem
           suffices ! _ (ends-at 𝓤 H A step.ended stayed (step.clauses 𝓤 H A mem run) W at-entry u s (tt, tt) (tt, tt)) $ says ! is-found $
           move ! (1 ∷ []) $ frame ! $ nothing ! $ move ! (2 ∷ 0 ∷ []) $ fjoin ! $ frame ! $ done !
 
-      module _ (C : Calls 𝓤 H) (Λ : Loops 𝓤 H) (fm : FmC 𝓤 H (W .laws) C) (known : Triple 𝓤 (C #sheet·reader·field-at) FieldAt) where
+      module _ (C : Calls 𝓤 H) (Λ : Loops 𝓤 H) (fm : FmC 𝓤 H (W .laws) C) (known : Triple 𝓤 (C #fields·reader·field-at) FieldAt) where
         walk : Is (Held (κ, tt)) r (value ∷ []) → ent 𝓤 entry (WpFn 𝓤 H C Λ code.function (value ∷ []) (Ended .post at-entry))
         walk is =
             let types = typed 𝓤 H A W κ r is in
@@ -109,14 +109,14 @@ module _ {M : Type 1} (𝓤 : URA M) (H : Heap 𝓤) (A : Atoms 𝓤) (mem : Mem
             returns ! (look ! 9 refl) $ forget ! 3 refl $ forget ! 5 refl $ forget ! 7 refl $ forget ! 9 refl $
             move ! (9 ∷ 10 ∷ []) $ free1 ! $ move ! (7 ∷ 8 ∷ []) $ free1 ! $ move ! (5 ∷ 6 ∷ []) $ free1 ! $ move ! (3 ∷ 4 ∷ []) $ free1 ! $ free0 ! $ by ! (exits s u is-found)))))))))
 
-    walks : (C : Calls 𝓤 H) (Λ : Loops 𝓤 H) → FmC 𝓤 H (W .laws) C → Triple 𝓤 (C #sheet·reader·field-at) FieldAt
+    walks : (C : Calls 𝓤 H) (Λ : Loops 𝓤 H) → FmC 𝓤 H (W .laws) C → Triple 𝓤 (C #fields·reader·field-at) FieldAt
         → Walks 𝓤 H A step.ended stayed (WpFn 𝓤 H C Λ code.function) (step.clauses 𝓤 H A mem run)
     walks C Λ fm known =
         walked 𝓤 H A step.ended stayed (step.clauses 𝓤 H A mem run) (WpFn 𝓤 H C Λ code.function)
         (λ κs. ((λ r. reader-value r ∷ []), tt)) (λ κs. (reader-tells κs, tt))
         (λ κs qs bounds a g are. via 𝓤 _ (fst∗ 𝓤 _ (emp 𝓤)) (walk (κs .0) (qs .0) (a .0) C Λ fm known (are .0)))
 
-    meets : (𝓣 : Tables 𝓤 H) → Triple 𝓤 (𝓣 .C #sheet·reader·field-at) FieldAt
+    meets : (𝓣 : Tables 𝓤 H) → Triple 𝓤 (𝓣 .C #fields·reader·field-at) FieldAt
         → Meets 𝓤 H A step.signature (WpFn 𝓤 H (𝓣 .C) (𝓣 .Λ) code.function) (step.spec 𝓤 H A mem run)
     meets 𝓣 known =
         walk-meets 𝓤 H A step.ended stayed W (kept-goes 𝓤 H A W, tt) (step.clauses 𝓤 H A mem run)
@@ -129,4 +129,4 @@ step-spec 𝓤 H 𝓜 𝓖 𝓡 =
     entered 𝓤 H (tripleOf 𝓤 H (𝓖 .A) step.signature (step.spec 𝓤 H (𝓖 .A) (𝓜 .mem) (𝓡 .run)))
     (tables 𝓤 H 𝓜 𝓡 code.env .C) (tables 𝓤 H 𝓜 𝓡 code.env .Λ) #fieldreader·Reader·step code.function (code.unfolded 𝓤 H 𝓜 𝓡)
     (meets 𝓤 H (𝓖 .A) (𝓜 .mem) (𝓡 .run) (givenOf 𝓤 H 𝓜 𝓖) (tablesOf 𝓤 H 𝓜 (tables 𝓤 H 𝓜 𝓡 code.env))
-    (cited 𝓤 H (FieldAt 𝓤 H (𝓖 .A) (𝓜 .mem) (𝓡 .run)) 𝓜 𝓡 code.env #sheet·reader·field-at field-at-symbol.routine code.calls-sheet·reader·field-at (field-at-met.met 𝓤 H 𝓜 𝓖 𝓡)))
+    (cited 𝓤 H (FieldAt 𝓤 H (𝓖 .A) (𝓜 .mem) (𝓡 .run)) 𝓜 𝓡 code.env #fields·reader·field-at field-at-symbol.routine code.calls-fields·reader·field-at (field-at-met.met 𝓤 H 𝓜 𝓖 𝓡)))

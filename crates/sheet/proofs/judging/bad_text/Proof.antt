@@ -1,9 +1,10 @@
 -- `bad_text` meets its contract. The bytes that are left decide as all of them do.
 use Prim.Native.Nat.{_-_, _≤_}
-use Rattle.sheet.proofs.Deciding.{told, any-hit, any-miss, any-none}
+use Rattle.fields.proofs.Deciding.{told, any-hit, any-miss, any-none}
 use Rattle.sheet.proofs.judging.bad_text.Statement.{statement}
-use Rattle.sheet.specs.Deciding.{anyFrom}
-use Rattle.sheet.specs.Rules.{badByte, badText}
+use Rattle.fields.specs.Deciding.{anyFrom}
+use Rattle.rules.specs.Rules.{badByte}
+use Rattle.sheet.specs.Content.{badText}
 use borrow.Author.Needs.{needs}
 use lib.ListN.{length, getD}
 use mathlib.Core.Path.{_≡_, _∙_, refl, sym}

@@ -1,5 +1,5 @@
 -- `field_number` meets its contract: the first rules, then those behind.
-use Rattle.sheet.proofs.Deciding.{pass, stop}
+use Rattle.fields.proofs.Deciding.{pass, stop}
 use Rattle.sheet.proofs.Numbered.{head-numbered}
 use Rattle.sheet.proofs.judging.field_number.Statement.{statement}
 use borrow.Author.Needs.{needs}

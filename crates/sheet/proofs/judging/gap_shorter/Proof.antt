@@ -1,10 +1,10 @@
 -- `gap_shorter` meets its contract. The gaps that are left decide as all of them do.
 use Prim.Native.Nat.{_+_, _-_, _*_}
-use Rattle.sheet.proofs.Deciding.{told, any-hit, any-miss, any-none}
+use Rattle.fields.proofs.Deciding.{told, any-hit, any-miss, any-none}
 use Rattle.sheet.proofs.judging.gap_shorter.Statement.{statement}
-use Rattle.sheet.specs.Deciding.{anyFrom}
-use Rattle.sheet.specs.Reading.{wordAt}
-use Rattle.sheet.specs.Rules.{gapShorter}
+use Rattle.fields.specs.Deciding.{anyFrom}
+use Rattle.fields.specs.Reading.{wordAt}
+use Rattle.sheet.specs.Content.{gapShorter}
 use borrow.Author.Needs.{needs}
 use lib.Dec.{ltb}
 use mathlib.Core.Path.{_≡_, _∙_, refl, sym}

@@ -1,6 +1,6 @@
 -- `head_number` meets its contract: each arm has the rules of its kind.
 use Rattle.sheet.proofs.judging.head_number.Statement.{statement}
-use Rattle.sheet.specs.Deciding.{pick, firstBroken}
+use Rattle.fields.specs.Deciding.{pick, firstBroken}
 use Rattle.sheet.specs.Judging.{headRules}
 use borrow.Author.Needs.{needs}
 use mathlib.Core.Path.{refl}

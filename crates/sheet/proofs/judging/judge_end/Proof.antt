@@ -1,5 +1,5 @@
 -- `judge_end` meets its contract, rule by rule.
-use Rattle.sheet.proofs.Deciding.{judging}
+use Rattle.fields.proofs.Deciding.{judging}
 use Rattle.sheet.proofs.judging.judge_end.Statement.{statement}
 use Rattle.sheet.specs.Judging.{endJudged}
 use borrow.Author.Needs.{needs}

@@ -1,25 +1,28 @@
 -- `own_number` meets its contract: each arm has the rules of its kind.
 use Prim.Native.Nat.{_+_, _*_, _≤_, _<_}
-use Rattle.sheet.proofs.Numbered.{head-kept, common-fits, row-fits}
+use Rattle.sheet.proofs.Numbered.{head-kept, mode-fits, row-fits, task-fits}
 use Rattle.sheet.proofs.judging.own_number.Statement.{statement}
-use Rattle.sheet.specs.Deciding.{firstBroken}
-use Rattle.sheet.specs.Fields.{lineOf, fields}
+use Rattle.fields.proofs.Deciding.{Kept}
+use Rattle.fields.specs.Deciding.{firstBroken}
 use Rattle.sheet.specs.Judging.{headRules, ownRules}
-use Rattle.sheet.specs.Limits.{rowLimit, headSize, gapSize}
-use Rattle.sheet.specs.Reading.{longAt}
-use Rattle.sheet.specs.Rules.{followerCount}
-use Rattle.sheet.specs.declared.fields.Kind.the-variants.{ModeField, RowField, TaskField}
+use Rattle.fields.specs.Limits.{rowLimit, headSize, gapSize}
+use Rattle.fields.specs.Reading.{longAt}
+use Rattle.rules.specs.Rules.{followerCount}
 use borrow.Author.Needs.{needs}
 use denote.Ref.{now}
 use mathlib.Core.Path.{_≡_, refl}
 use native.Mathlib.Omega.{arith}
 use Rattle.sheet.proofs.judging.own_number.Tie as tie
 
--- a row that keeps the first rules has its head and all its gaps
+-- its first rules are kept
+kept : (s : tie.Start) → let a = s .args in Kept (headRules (now (a .bytes)) (a .tally) (a .kind) (a .start) (a .size))
+kept s = head-kept _ _ _ _ _ (s .pre .1)
+
+-- a row that keeps them has its head and all its gaps
 row : (c : tie.After-enum-told4) →
     let a = c .before .before .before .args in
     (headSize ≤ a .size) × (a .size ≡ headSize + gapSize * followerCount (longAt (now (a .bytes)) (a .start + 4))) × (a .tally .rows < rowLimit)
-row c = row-fits _ _ _ _ (head-kept _ _ _ _ RowField (rw (c .enum-told4 .given .1) at (c .before .before .before .pre .1)))
+row c = row-fits _ _ _ _ _ (c .enum-told4 .given .1) (kept (c .before .before .before))
 
 enum-told : tie.Need-enum-told
 enum-told c = search needs
@@ -34,10 +37,9 @@ enum-told-3 : tie.Need-enum-told-3
 enum-told-3 c = search needs
 
 mode-at-requires : tie.Need-mode-at-requires
-unfolding headRules lineOf fields
 mode-at-requires c κs =
-    let a = c .before .before .before .args in
-    omega (arith, common-fits 2 _ _ _ (head-kept (now (a .bytes)) (a .tally) (a .start) (a .size) ModeField (rw (c .enum-told3 .given .1) at (c .before .before .before .pre .1))))
+    let s = c .before .before .before in
+    omega (arith, mode-fits (now (s .args .bytes)) (s .args .tally) (s .args .start) (s .args .size) (s .args .kind) (c .enum-told3 .given .1) (kept s))
 
 mode-number-requires : tie.Need-mode-number-requires
 mode-number-requires c κs = search needs
@@ -55,10 +57,9 @@ enum-told-5 : tie.Need-enum-told-5
 enum-told-5 c = search needs
 
 task-at-requires : tie.Need-task-at-requires
-unfolding headRules lineOf fields
 task-at-requires c κs =
-    let a = c .before .before .before .args in
-    omega (arith, common-fits 4 _ _ _ (head-kept (now (a .bytes)) (a .tally) (a .start) (a .size) TaskField (rw (c .enum-told5 .given .1) at (c .before .before .before .pre .1))))
+    let s = c .before .before .before in
+    omega (arith, task-fits (now (s .args .bytes)) (s .args .tally) (s .args .start) (s .args .size) (s .args .kind) (c .enum-told5 .given .1) (kept s))
 
 task-number-requires : tie.Need-task-number-requires
 task-number-requires c κs = search needs

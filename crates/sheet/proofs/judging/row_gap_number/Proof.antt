@@ -1,6 +1,6 @@
 -- `row_gap_number` meets its contract: two looks at the gaps answer what the rules ask of them.
 use Rattle.sheet.proofs.judging.row_gap_number.Statement.{statement}
-use Rattle.sheet.specs.Rules.{rowGapRules}
+use Rattle.sheet.specs.Content.{rowGapRules}
 use borrow.Author.Needs.{needs}
 use Rattle.sheet.proofs.judging.row_gap_number.Tie as tie
 

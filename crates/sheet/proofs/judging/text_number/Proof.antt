@@ -1,8 +1,8 @@
 -- `text_number` meets its contract.
-use Rattle.sheet.proofs.Deciding.{judging}
+use Rattle.fields.proofs.Deciding.{judging}
 use Rattle.sheet.proofs.judging.text_number.Statement.{statement}
-use Rattle.sheet.specs.Deciding.{firstBroken}
-use Rattle.sheet.specs.Rules.{textRules}
+use Rattle.fields.specs.Deciding.{firstBroken}
+use Rattle.sheet.specs.Content.{textRules}
 use borrow.Author.Needs.{needs}
 use Rattle.sheet.proofs.judging.text_number.Tie as tie
 

@@ -1,14 +1,13 @@
 -- `with_field` meets its contract: each arm adds what its kind adds.
 use Prim.Native.Nat.{_+_, _*_, _≤_, _<_}
-use Rattle.sheet.proofs.Numbered.{first-kept, common-fits, row-fits}
+use Rattle.sheet.proofs.Numbered.{first-kept, mode-fits, row-fits, task-fits}
 use Rattle.sheet.proofs.judging.with_field.Statement.{statement}
-use Rattle.sheet.specs.Fields.{lineOf, fields}
+use Rattle.fields.proofs.Deciding.{Kept}
 use Rattle.sheet.specs.Judging.{headRules, withField}
-use Rattle.sheet.specs.Limits.{modeLimit, rowLimit, taskLimit, headSize, gapSize}
-use Rattle.sheet.specs.Reading.{longAt}
-use Rattle.sheet.specs.Rules.{followerCount}
+use Rattle.fields.specs.Limits.{modeLimit, rowLimit, taskLimit, headSize, gapSize}
+use Rattle.fields.specs.Reading.{longAt}
+use Rattle.rules.specs.Rules.{followerCount}
 use Rattle.sheet.specs.Values.{withMode, withRow, withTask}
-use Rattle.sheet.specs.declared.fields.Kind.the-variants.{ModeField, RowField, TaskField}
 use borrow.Author.Needs.{needs}
 use denote.Ref.{now}
 use mathlib.Core.Path.{_≡_, _∙_, refl, ap}
@@ -16,22 +15,19 @@ use native.Mathlib.Omega.{arith}
 use Rattle.sheet.proofs.judging.with_field.Tie as tie
 
 -- the first rules are kept, so the content is long enough and there is room
-mode : (c : tie.After-enum-told3) →
-    let a = c .before .before .before .args in
-    (4 ≤ a .size) × (a .sheet .tally .modes < modeLimit)
-unfolding headRules lineOf fields
-mode c = common-fits 2 _ _ _ (first-kept _ _ _ _ ModeField (rw (c .enum-told3 .given .1) at (c .before .before .before .pre .1)))
+kept : (s : tie.Start) → let a = s .args in Kept (headRules (now (a .bytes)) (a .sheet .tally) (a .kind) (a .start) (a .size))
+kept s = first-kept _ _ _ _ _ (s .pre .1)
+
+mode : (c : tie.After-enum-told3) → let a = c .before .before .before .args in (4 ≤ a .size) × (a .sheet .tally .modes < modeLimit)
+mode c = mode-fits _ _ _ _ _ (c .enum-told3 .given .1) (kept (c .before .before .before))
 
 row : (c : tie.After-enum-told4) →
     let a = c .before .before .before .args in
     (headSize ≤ a .size) × (a .size ≡ headSize + gapSize * followerCount (longAt (now (a .bytes)) (a .start + 4))) × (a .sheet .tally .rows < rowLimit)
-row c = row-fits _ _ _ _ (first-kept _ _ _ _ RowField (rw (c .enum-told4 .given .1) at (c .before .before .before .pre .1)))
+row c = row-fits _ _ _ _ _ (c .enum-told4 .given .1) (kept (c .before .before .before))
 
-task : (c : tie.After-enum-told5) →
-    let a = c .before .before .before .args in
-    (6 ≤ a .size) × (a .sheet .tally .tasks < taskLimit)
-unfolding headRules lineOf fields
-task c = common-fits 4 _ _ _ (first-kept _ _ _ _ TaskField (rw (c .enum-told5 .given .1) at (c .before .before .before .pre .1)))
+task : (c : tie.After-enum-told5) → let a = c .before .before .before .args in (6 ≤ a .size) × (a .sheet .tally .tasks < taskLimit)
+task c = task-fits _ _ _ _ _ (c .enum-told5 .given .1) (kept (c .before .before .before))
 
 enum-told : tie.Need-enum-told
 enum-told c = search needs

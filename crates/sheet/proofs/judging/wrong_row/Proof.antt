@@ -1,7 +1,7 @@
 -- `wrong_row` meets its contract: the table's test first, then the set's.
-use Rattle.sheet.proofs.Deciding.{judging, kept}
+use Rattle.fields.proofs.Deciding.{judging, kept}
 use Rattle.sheet.proofs.judging.wrong_row.Statement.{statement}
-use Rattle.sheet.specs.Rules.{wrongRow}
+use Rattle.sheet.specs.Content.{wrongRow}
 use borrow.Author.Needs.{needs}
 use native.Mathlib.Omega.{arith}
 use Rattle.sheet.proofs.judging.wrong_row.Tie as tie

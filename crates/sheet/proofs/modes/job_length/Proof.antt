@@ -1,10 +1,11 @@
 -- `job_length` meets its contract. The modes that are left decide as all of them do.
 use Prim.Native.Nat.{min, ℕ, _+_, _-_, _≤_, _<_}
 use Rattle.sheet.proofs.modes.job_length.Statement.{statement}
-use Rattle.sheet.specs.Deciding.{pick}
-use Rattle.sheet.specs.Values.{noMode, jobLength}
-use Rattle.sheet.specs.declared.units.Rpm.{Rpm}
-use Rattle.sheet.specs.declared.values.Mode.{Mode}
+use Rattle.fields.specs.Deciding.{pick}
+use Rattle.fields.specs.Values.{noMode}
+use Rattle.sheet.specs.Values.{jobLength}
+use Rattle.fields.specs.declared.units.Rpm.{Rpm}
+use Rattle.fields.specs.declared.values.Mode.{Mode}
 use borrow.Author.Needs.{needs}
 use lib.Dec.{leb}
 use lib.ListN.{length, getD, take, drop, length-take, drop-of-length-le}

@@ -1,0 +1,81 @@
+-- `begin` meets its contract: the judge first, then the range, then the room.
+use Prim.Native.Nat.{_*_, _≤_, _<_}
+use Rattle.beginning.proofs.Beginnings.{begin-refused, begin-beyond, begin-short, begin-goes-on}
+use Rattle.beginning.proofs.begin.Statement.{statement}
+use Rattle.beginning.specs.Beginning.{lines}
+use Rattle.sheet.proofs.Accepted.{accepted-proper}
+use Rattle.sheet.specs.Judging.{judged}
+use Rattle.sheet.specs.declared.Answer.the-variants.{Accepted}
+use Rattle.sheet.specs.declared.Judged.{Judged}
+use borrow.Author.Needs.{needs}
+use borrow.Author.Tests.{eq-eqb, ne-eqb}
+use denote.Ref.{now}
+use mathlib.Core.Path.{_≡_, _∙_, sym, ap, subst}
+use native.Mathlib.Nat.{mul-le-mul}
+use native.Mathlib.Omega.{arith}
+use Rattle.beginning.proofs.begin.Tie as tie
+
+judge-requires : tie.Need-judge-requires
+judge-requires c κs = search needs
+
+enum-told : tie.Need-enum-told
+enum-told c = search needs
+
+enum-told-2 : tie.Need-enum-told-2
+enum-told-2 c = search needs
+
+refused-requires : tie.Need-refused-requires
+refused-requires c κs = search needs
+
+-- where the answer is known, the judge's answer is
+accepted : (c : tie.After-enum-told2) → judged (now (c .before .before .before .before .before .before .args .bytes)) .answer ≡ Accepted
+accepted c = sym (ap (λ (j : Judged). j .answer) (c .before .before .before .before .judge .ensures)) ∙ c .enum-told2 .given .1
+
+-- and the sheet has few rows
+rows-few : (c : tie.After-enum-told2) → c .before .before .before .before .judge .result .sheet .tally .rows ≤ 32
+rows-few c =
+    let proper = accepted-proper (now (c .before .before .before .before .before .before .args .bytes)) (λ i. omega (arith, c .before .before .before .before .before .shared-slice-known .given i)) (accepted c) in
+    subst (λ (j : Judged). j .sheet .tally .rows ≤ 32) (sym (c .before .before .before .before .judge .ensures)) (proper .rows-most)
+
+returns : tie.Need-returns
+returns c = begin-beyond _ _ _ _ _ (accepted (c .before .before)) (eq-eqb _ _ (c .before .if1 .taken)) (c .refused .ensures)
+
+mul-if2 : tie.Need-mul-if2
+mul-if2 c =
+    let few = rows-few (c .before .before) in
+    omega (arith, mul-le-mul few (c .before .before .before .before .before .before .before .before .pre))
+
+refused-requires-2 : tie.Need-refused-requires-2
+refused-requires-2 c κs = search needs
+
+returns-2 : tie.Need-returns-2
+returns-2 c =
+    begin-short _ _ _ _ _ (accepted (c .before .before .before .before)) (ne-eqb _ _ (c .before .before .before .if1 .left))
+    (subst (λ (j : Judged). c .before .before .before .before .before .before .before .before .before .before .args .room < j .sheet .tally .rows * c .before .before .before .before .before .before .before .before .before .before .args .lines) (c .before .before .before .before .before .before .before .before .judge .ensures) (c .before .if2 .taken))
+    (c .refused2 .ensures)
+
+returns-3 : tie.Need-returns-3
+returns-3 c =
+    let e = c .before .before .before .before .judge .ensures in
+    begin-refused _ _ _ _ _ _ _ (sym (ap (λ (j : Judged). j .answer) e) ∙ c .enum-told .given .1) (c .enum-told .given .1)
+
+returns-4 : tie.Need-returns-4
+returns-4 c =
+    begin-goes-on _ _ _ _ _ (accepted (c .before .before .before)) (ne-eqb _ _ (c .before .before .if1 .left))
+    (subst (λ (j : Judged). j .sheet .tally .rows * c .before .before .before .before .before .before .before .before .before .args .lines ≤ c .before .before .before .before .before .before .before .before .before .args .room) (c .before .before .before .before .before .before .before .judge .ensures) (c .if2 .left))
+    (c .before .before .before .before .before .before .before .judge .ensures)
+
+pub begin-spec : {M : Type 1} → statement M
+begin-spec =
+    tie.close
+    (tie.spec
+    judge-requires
+    enum-told
+    enum-told-2
+    refused-requires
+    returns
+    mul-if2
+    refused-requires-2
+    returns-2
+    returns-3
+    returns-4)

@@ -1,0 +1,90 @@
+// How every call begins: the sheet is judged, then the number asked for and the room are.
+use fields::values::Sheet;
+use sheet::Answer;
+use sheet::Judged;
+use sheet::judge;
+ghost use mathlib.Core.Path.{_≡_};
+ghost use Prim.Native.Nat.{_+_, _≤_};
+ghost use lib.Dec.{ltb, eqb};
+ghost use Rattle.meaning.specs.Demand.{longestTime};
+ghost use Rattle.fields.specs.Deciding.{pick};
+ghost use Rattle.sheet.specs.declared.Answer.the-variants.{Refused};
+ghost use Rattle.beginning.specs.Beginning.{badAmount, Begun};
+
+// A call with an interval or a horizon, which takes a line of cells for each interval from 0 on.
+pub fn begin_interval(bytes: &[u8], interval: u64, room: usize) -> Judged
+    ensures { λ r. ⌜ Begun (now (bytes .entry)) (ltb longestTime interval) (interval + 1) room r ⌝ }
+{
+    begin(bytes, interval_lines(interval), room)
+}
+
+// A call with an amount, which takes a line of cells for each amount from 1 on.
+pub fn begin_amount(bytes: &[u8], amount: u64, room: usize) -> Judged
+    ensures { λ r. ⌜ Begun (now (bytes .entry)) (badAmount amount) amount room r ⌝ }
+{
+    begin(bytes, amount_lines(amount), room)
+}
+
+// How many lines an interval takes, none where it is out of range.
+fn interval_lines(interval: u64) -> usize
+    ensures { λ r. ⌜ r ≡ pick (ltb longestTime interval) 0 (interval + 1) ⌝ }
+    ensures { λ r. ⌜ r ≤ longestTime + 1 ⌝ }
+{
+    if (Sheet::TICKS as u64) < interval {
+        return 0;
+    }
+    interval as usize + 1
+}
+
+// How many lines an amount takes, none where it is out of range.
+fn amount_lines(amount: u64) -> usize
+    ensures { λ r. ⌜ r ≡ pick (badAmount amount) 0 amount ⌝ }
+    ensures { λ r. ⌜ r ≤ longestTime + 1 ⌝ }
+{
+    if (Sheet::TICKS as u64) + 1 < amount {
+        return 0;
+    }
+    amount as usize
+}
+
+// The sheet where the call may go on, else the first of the refusals 1 to 12. No lines say that the number asked for is out of range.
+fn begin(bytes: &[u8], lines: usize, room: usize) -> Judged
+    requires { ⌜ lines ≤ longestTime + 1 ⌝ }
+    ensures { λ r. ⌜ Begun (now (bytes .entry)) (eqb lines 0) lines room r ⌝ }
+{
+    let judged = judge(bytes);
+    let answer = judged.answer;
+    let sheet = judged.sheet;
+    let tally = sheet.tally;
+    match answer {
+        Answer::Refused {
+            number: _,
+            place: _,
+        } => judged,
+        Answer::Accepted => {
+            if lines == 0 {
+                return Judged {
+                    answer: refused(11),
+                    sheet: sheet,
+                };
+            }
+            if room < tally.rows * lines {
+                return Judged {
+                    answer: refused(12),
+                    sheet: sheet,
+                };
+            }
+            judged
+        }
+    }
+}
+
+// From 11 on a refusal's place is 0.
+fn refused(number: u8) -> Answer
+    ensures { λ r. ⌜ r ≡ Refused number 0 ⌝ }
+{
+    Answer::Refused {
+        number: number,
+        place: 0,
+    }
+}

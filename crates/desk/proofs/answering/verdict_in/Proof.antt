@@ -1,0 +1,46 @@
+-- `verdict_in` meets its contract: all lines are filled, and the sweep over them gives the verdict.
+use Prim.Native.Nat.{ℕ, _+_, _*_, _≤_}
+use Rattle.desk.proofs.Telling.{room-told, verdict-told}
+use Rattle.desk.proofs.answering.verdict_in.Statement.{statement}
+use borrow.Author.Needs.{needs}
+use denote.Ref.{now}
+use mathlib.Core.Path.{sym, subst}
+use Rattle.desk.proofs.answering.verdict_in.Tie as tie
+
+fill-requires : tie.Need-fill-requires
+fill-requires c κs =
+    let s = c .before .before .before in
+    (s .pre .0, (s .pre .1 .1 .0, room-told _ _ (s .pre .1 .0) (s .pre .0) (s .args .horizon + 1) (now (s .args .cells)) (s .pre .1 .1 .1)))
+
+sweep-requires : tie.Need-sweep-requires
+sweep-requires c κs =
+    let s = c .before .before .before .before .before .before .before in (
+      (_, s .pre .0 .proper),
+      (
+        s .pre .1 .1 .0,
+        subst (λ (x : ℕ). s .args .sheet .tally .rows * (s .args .horizon + 1) ≤ x) (sym (c .before .before .before .fill .ensures .same-length))
+            (room-told _ _ (s .pre .1 .0) (s .pre .0) (s .args .horizon + 1) (now (s .args .cells)) (s .pre .1 .1 .1)),
+      ),
+    )
+
+as-answer-requires : tie.Need-as-answer-requires
+as-answer-requires c κs = search needs
+
+same-length : tie.Need-same-length
+same-length c = search needs
+
+returns : tie.Need-returns
+returns c =
+    let s = c .before .before .before .before .before .before .before .before .before in
+    verdict-told _ _ (s .pre .1 .0) (s .pre .0) (s .args .table) _ _ _ (room-told _ _ (s .pre .1 .0) (s .pre .0) (s .args .horizon + 1) (now (s .args .cells)) (s .pre .1 .1 .1)) (c .before .before .before .before .before .fill .ensures)
+    (c .before .sweep .result) (c .before .sweep .ensures) _ (c .as-answer .ensures)
+
+pub verdict-in-spec : {M : Type 1} → statement M
+verdict-in-spec =
+    tie.close
+    (tie.spec
+    fill-requires
+    sweep-requires
+    as-answer-requires
+    same-length
+    returns)

@@ -1,0 +1,61 @@
+-- `verdict` meets its contract: it refuses as it begins, or answers as `verdict_in` does.
+use Prim.Native.Nat.{_+_}
+use Rattle.beginning.proofs.GoingOn.{GoesOn, goes-on, room-enough, goes-answering}
+use Rattle.desk.specs.Calls.{VerdictCall}
+use Rattle.beginning.proofs.Beginnings.{begun-refused}
+use Rattle.desk.proofs.verdict.Statement.{statement}
+use Rattle.meaning.specs.Demand.{longestTime}
+use borrow.Author.Needs.{needs}
+use borrow.Author.Tests.{ltb-false}
+use denote.Ref.{now}
+use lib.Dec.{ltb}
+use lib.ListN.{length}
+use mathlib.Core.Path.{refl}
+use native.Mathlib.Omega.{arith}
+use Rattle.desk.proofs.verdict.Tie as tie
+
+begin-interval-requires : tie.Need-begin-interval-requires
+begin-interval-requires c κs = search needs
+
+enum-known-answer : tie.Need-enum-known-answer
+enum-known-answer c = search needs
+
+enum-told : tie.Need-enum-told
+enum-told c = search needs
+
+-- what is known where the call goes on
+going : (c : tie.After-enum-told) →
+    let a = c .before .before .before .before .before .before .args in
+    GoesOn (now (a .bytes)) (ltb longestTime (a .horizon)) (a .horizon + 1) (length (now (a .cells))) (c .before .before .before .begin-interval .result)
+going c =
+    goes-on _ _ _ _ _ (λ i. omega (arith, c .before .before .before .before .before .shared-slice-known .given i)) (c .before .before .before .begin-interval .ensures) (c .enum-told .given .1)
+
+verdict-in-requires : tie.Need-verdict-in-requires
+verdict-in-requires c κs =
+    let g = going (c .before) in
+    (g .ready, (g .same, (ltb-false _ _ (g .in-range), room-enough _ _ _ _ _ g)))
+
+returns : tie.Need-returns
+unfolding VerdictCall
+returns c =
+    let b = c .before .before .before .before .begin-interval in
+    begun-refused _ _ _ _ (b .result) (b .ensures) _ _ (c .before .answer .given .1) _ _ (refl, refl)
+
+same-length : tie.Need-same-length
+same-length c = search needs
+
+returns-2 : tie.Need-returns-2
+unfolding VerdictCall
+returns-2 c = goes-answering _ _ _ _ _ (going (c .before .before .before .before)) _ _ (c .before .before .verdict-in .ensures)
+
+pub verdict-spec : {M : Type 1} → statement M
+verdict-spec =
+    tie.close
+    (tie.spec
+    begin-interval-requires
+    enum-known-answer
+    enum-told
+    verdict-in-requires
+    returns
+    same-length
+    returns-2)

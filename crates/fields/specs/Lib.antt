@@ -1,0 +1,5 @@
+pub mod Deciding
+pub mod Limits
+pub mod Fields
+pub mod Reading
+pub mod Values

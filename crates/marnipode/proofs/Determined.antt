@@ -1,0 +1,51 @@
+-- The exported calls leave no choice either: two structs of numbers that a call's contract allows are equal, and so are the cells and bytes left with them.
+use Prim.Native.Nat.{ℕ}
+use mathlib.Core.Path.{_≡_, sym, ap, _∙_}
+use mathlib.Core.List.{List}
+use Rattle.desk.specs.Calls.{MarginCall, ShortestCall, VerdictByIntervalCall, VerdictByAmountCall}
+use Rattle.desk.proofs.Determined.{demand-determined, margin-determined, shortest-determined, verdict-by-interval-determined, verdict-by-amount-determined}
+use Rattle.numbers.specs.Flat.{flatDemand, flatMargin, flatShortest, flatVerdict}
+use Rattle.marnipode.specs.Exported.{Numbers, DemandExport, MarginExport, ShortestExport, VerdictByIntervalExport, VerdictByAmountExport}
+use Rattle.numbers.specs.declared.DemandForC.{DemandForC}
+use Rattle.numbers.specs.declared.MarginForC.{MarginForC}
+use Rattle.numbers.specs.declared.ShortestForC.{ShortestForC}
+use Rattle.numbers.specs.declared.VerdictForC.{VerdictForC}
+
+-- one answer has one struct of numbers
+same-numbers : {A N : Type 0} (flat : A → N) (x y : A) (n m : N) → x ≡ y → n ≡ flat x → m ≡ flat y → n ≡ m
+same-numbers flat x y n m same e f = e ∙ ap flat same ∙ sym f
+
+-- so what determines an answer and the cells left with it determines its numbers and the cells
+export-determined : {A N : Type 0} (Call : A → List ℕ → Type 0)
+    → ((x y : A) (left right : List ℕ) → Call x left → Call y right → (x ≡ y) × (left ≡ right))
+    → (flat : A → N) (n m : N) (left right : List ℕ) → Numbers (λ answer. Call answer left) flat n → Numbers (λ answer. Call answer right) flat m
+    → (n ≡ m) × (left ≡ right)
+export-determined Call one flat n m left right (x, p, e) (y, q, f) =
+    let same = one x y left right p q in
+    (same-numbers flat x y n m (same .0) e f, same .1)
+
+module _ (bytes : List ℕ) (number : ℕ) (cells : List ℕ) where
+  pub demand-export-determined : (area : List ℕ) (n m : DemandForC) (cells₁ cells₂ area₁ area₂ : List ℕ)
+      → DemandExport bytes number cells area n cells₁ area₁ → DemandExport bytes number cells area m cells₂ area₂
+      → (n ≡ m) × (cells₁ ≡ cells₂) × (area₁ ≡ area₂)
+  demand-export-determined area n m cells₁ cells₂ area₁ area₂ (x, p, e) (y, q, f) =
+      let same = demand-determined bytes number cells area x y cells₁ cells₂ area₁ area₂ p q in
+      (same-numbers flatDemand x y n m (same .0) e f, same .1, same .2)
+
+  pub margin-export-determined : (n m : MarginForC) (left right : List ℕ)
+      → MarginExport bytes number cells n left → MarginExport bytes number cells m right → (n ≡ m) × (left ≡ right)
+  margin-export-determined = export-determined (MarginCall bytes number cells) (margin-determined bytes number cells) flatMargin
+
+  pub shortest-export-determined : (n m : ShortestForC) (left right : List ℕ)
+      → ShortestExport bytes number cells n left → ShortestExport bytes number cells m right → (n ≡ m) × (left ≡ right)
+  shortest-export-determined = export-determined (ShortestCall bytes number cells) (shortest-determined bytes number cells) flatShortest
+
+  pub verdict-by-interval-export-determined : (n m : VerdictForC) (left right : List ℕ)
+      → VerdictByIntervalExport bytes number cells n left → VerdictByIntervalExport bytes number cells m right → (n ≡ m) × (left ≡ right)
+  verdict-by-interval-export-determined =
+      export-determined (VerdictByIntervalCall bytes number cells) (verdict-by-interval-determined bytes number cells) flatVerdict
+
+  pub verdict-by-amount-export-determined : (n m : VerdictForC) (left right : List ℕ)
+      → VerdictByAmountExport bytes number cells n left → VerdictByAmountExport bytes number cells m right → (n ≡ m) × (left ≡ right)
+  verdict-by-amount-export-determined =
+      export-determined (VerdictByAmountCall bytes number cells) (verdict-by-amount-determined bytes number cells) flatVerdict

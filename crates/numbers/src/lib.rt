@@ -1,0 +1,219 @@
+// The structs that C is given, and each answer of the library as one of them.
+use desk::DemandAnswer;
+use desk::MarginAnswer;
+use desk::ShortestAnswer;
+use desk::VerdictAnswer;
+use fields::reader::Step;
+use fields::table::Kind;
+use sheet::Answer;
+use sheet::Judged;
+ghost use mathlib.Core.Path.{_≡_};
+ghost use Rattle.numbers.specs.Flat.{kindNumber, flatJudged, flatLabel, flatStep, flatDemand, flatMargin, flatShortest, flatVerdict};
+
+// In each of them `number` is 0, or the refusal's number with its place, and then all else is 0.
+#[repr(C)]
+pub struct JudgeForC {
+    pub number: u8,
+    pub place: usize,
+    pub modes: usize,
+    pub rows: usize,
+    pub tasks: usize,
+}
+
+#[repr(C)]
+pub struct LabelForC {
+    pub start: usize,
+    pub size: usize,
+}
+
+#[repr(C)]
+pub struct FieldForC {
+    pub number: u8,
+    pub place: usize,
+    pub kind: u8,
+    pub start: usize,
+    pub size: usize,
+    pub next: usize,
+}
+
+#[repr(C)]
+pub struct DemandForC {
+    pub number: u8,
+    pub place: usize,
+    pub amount: u32,
+    pub count: usize,
+}
+
+#[repr(C)]
+pub struct MarginForC {
+    pub number: u8,
+    pub place: usize,
+    pub margin: i64,
+}
+
+#[repr(C)]
+pub struct ShortestForC {
+    pub number: u8,
+    pub place: usize,
+    pub time: u32,
+}
+
+#[repr(C)]
+pub struct VerdictForC {
+    pub number: u8,
+    pub place: usize,
+    pub overrun: u64,
+}
+
+pub fn judge_numbers(judged: Judged) -> JudgeForC
+    ensures { λ r. ⌜ r ≡ flatJudged judged ⌝ }
+{
+    let answer = judged.answer;
+    let sheet = judged.sheet;
+    let tally = sheet.tally;
+    match answer {
+        Answer::Accepted => JudgeForC {
+            number: 0,
+            place: 0,
+            modes: tally.modes,
+            rows: tally.rows,
+            tasks: tally.tasks,
+        },
+        Answer::Refused { number, place } => JudgeForC {
+            number: number,
+            place: place,
+            modes: tally.modes,
+            rows: tally.rows,
+            tasks: tally.tasks,
+        },
+    }
+}
+
+pub fn label_numbers(judged: Judged) -> LabelForC
+    ensures { λ r. ⌜ r ≡ flatLabel judged ⌝ }
+{
+    let sheet = judged.sheet;
+    let label = sheet.label;
+    LabelForC {
+        start: label.start,
+        size: label.size,
+    }
+}
+
+pub fn field_numbers(step: Step) -> FieldForC
+    ensures { λ r. ⌜ r ≡ flatStep step ⌝ }
+{
+    match step {
+        Step::Field {
+            kind,
+            start,
+            size,
+            next,
+        } => FieldForC {
+            number: 0,
+            place: 0,
+            kind: kind_number(kind),
+            start: start,
+            size: size,
+            next: next,
+        },
+        Step::Refusal { number, place } => FieldForC {
+            number: number,
+            place: place,
+            kind: 0,
+            start: 0,
+            size: 0,
+            next: 0,
+        },
+    }
+}
+
+// A known kind has its tag.
+fn kind_number(kind: Kind) -> u8
+    ensures { λ r. ⌜ r ≡ kindNumber kind ⌝ }
+{
+    match kind {
+        Kind::RefusedTag => 0,
+        Kind::LabelField => 1,
+        Kind::ModeField => 2,
+        Kind::RowField => 3,
+        Kind::TaskField => 4,
+        Kind::EndField => 5,
+        Kind::SkippedField => 6,
+    }
+}
+
+pub fn demand_numbers(answer: DemandAnswer) -> DemandForC
+    ensures { λ r. ⌜ r ≡ flatDemand answer ⌝ }
+{
+    match answer {
+        DemandAnswer::Found { amount, count } => DemandForC {
+            number: 0,
+            place: 0,
+            amount: amount,
+            count: count,
+        },
+        DemandAnswer::Refused { number, place } => DemandForC {
+            number: number,
+            place: place,
+            amount: 0,
+            count: 0,
+        },
+    }
+}
+
+pub fn margin_numbers(answer: MarginAnswer) -> MarginForC
+    ensures { λ r. ⌜ r ≡ flatMargin answer ⌝ }
+{
+    match answer {
+        MarginAnswer::Found { margin } => MarginForC {
+            number: 0,
+            place: 0,
+            margin: margin,
+        },
+        MarginAnswer::Refused { number, place } => MarginForC {
+            number: number,
+            place: place,
+            margin: 0,
+        },
+    }
+}
+
+pub fn shortest_numbers(answer: ShortestAnswer) -> ShortestForC
+    ensures { λ r. ⌜ r ≡ flatShortest answer ⌝ }
+{
+    match answer {
+        ShortestAnswer::Found { time } => ShortestForC {
+            number: 0,
+            place: 0,
+            time: time,
+        },
+        ShortestAnswer::Refused { number, place } => ShortestForC {
+            number: number,
+            place: place,
+            time: 0,
+        },
+    }
+}
+
+pub fn verdict_numbers(answer: VerdictAnswer) -> VerdictForC
+    ensures { λ r. ⌜ r ≡ flatVerdict answer ⌝ }
+{
+    match answer {
+        VerdictAnswer::Holds => VerdictForC {
+            number: 0,
+            place: 0,
+            overrun: 0,
+        },
+        VerdictAnswer::Overrun { interval } => VerdictForC {
+            number: 0,
+            place: 0,
+            overrun: interval,
+        },
+        VerdictAnswer::Refused { number, place } => VerdictForC {
+            number: number,
+            place: place,
+            overrun: 0,
+        },
+    }
+}

@@ -1,0 +1,35 @@
+-- `overrun_at` meets its contract: each table has its own test.
+use Rattle.overruns.proofs.sweep.overrun_at.Statement.{statement}
+use Rattle.overruns.specs.Sweeping.{overrunAt}
+use Rattle.tables.specs.declared.Table.{Table}
+use borrow.Author.Needs.{needs}
+use denote.Ref.{now}
+use mathlib.Core.Path.{sym, ap, _∙_}
+use Rattle.overruns.proofs.sweep.overrun_at.Tie as tie
+
+enum-told : tie.Need-enum-told
+enum-told c = search needs
+
+over-at-requires : tie.Need-over-at-requires
+over-at-requires c κs = search needs
+
+enum-told-2 : tie.Need-enum-told-2
+enum-told-2 c = search needs
+
+reached-at-requires : tie.Need-reached-at-requires
+reached-at-requires c κs = search needs
+
+returns : tie.Need-returns
+returns c =
+    let a = c .before .before .before .before .args in
+    c .over-at .ensures ∙ ap (λ (table : Table). overrunAt table (a .n) (now (a .cells)) (a .t) (a .fixed)) (sym (c .before .enum-told .given .1))
+
+returns-2 : tie.Need-returns-2
+returns-2 c =
+    let a = c .before .before .before .before .args in
+    c .reached-at .ensures ∙ ap (λ (table : Table). overrunAt table (a .n) (now (a .cells)) (a .t) (a .fixed)) (sym (c .before .enum-told2 .given .1))
+
+pub overrun-at-spec : {M : Type 1} → statement M
+overrun-at-spec =
+    tie.close
+    (tie.spec enum-told over-at-requires enum-told-2 reached-at-requires returns returns-2)

@@ -1,0 +1,103 @@
+// Fixed demand: at one interval, and as it grows from interval to interval.
+use fields::values::Sheet;
+use fields::values::Task;
+ghost use mathlib.Core.Path.{_≡_};
+ghost use Prim.Native.Nat.{_+_, _*_, _≤_};
+ghost use lib.ListN.{length};
+ghost use Rattle.meaning.specs.Demand.{longestTime};
+ghost use Rattle.meaning.specs.Fixed.{fixedOf, fixedSum};
+ghost use Rattle.fields.specs.Limits.{taskLimit};
+ghost use Rattle.sheet.specs.Meaning.{timesOf, tasksOf};
+ghost use Rattle.overruns.specs.Releases.{IsProper, AreTimes, Advanced};
+
+// The times of the fixed tasks as numbers, since only arrays of numbers are lent: each task's length and period, and when its next job falls due.
+pub(crate) struct Times {
+    pub lengths: [u16; Sheet::TASKS],
+    pub periods: [u16; Sheet::TASKS],
+    pub dues: [usize; Sheet::TASKS],
+}
+
+// Fixed demand at t.
+pub fn fixed_sum(sheet: Sheet, t: usize) -> u64
+    requires { ⌜ IsProper sheet ⌝ }
+    requires { ⌜ t ≤ longestTime ⌝ }
+    ensures { λ r. ⌜ r ≡ fixedSum (tasksOf sheet) t ⌝ }
+{
+    let tally = sheet.tally;
+    let count = tally.tasks;
+    let mut sum: u64 = 0;
+    let mut i: usize = 0;
+    while i < count {
+        let task = sheet.tasks[i];
+        sum += fixed_of(task, t);
+        i += 1;
+    }
+    sum
+}
+
+// Fixed demand of one task at t.
+fn fixed_of(task: Task, t: usize) -> u64
+    requires { ⌜ 1 ≤ task .period .0 ⌝ }
+    requires { ⌜ t ≤ longestTime ⌝ }
+    ensures { λ r. ⌜ (r ≡ fixedOf (timesOf task) t) × (r ≤ longestTime * (longestTime + 1)) ⌝ }
+{
+    let first = task.deadline.0 as usize;
+    if t < first {
+        return 0;
+    }
+    let jobs = 1 + (t - first) / (task.period.0 as usize);
+    task.length.0 as u64 * jobs as u64
+}
+
+// The times of a sheet's tasks before the first interval.
+pub(crate) fn times_of(sheet: Sheet) -> Times
+    ensures { λ r. ⌜ AreTimes sheet r ⌝ }
+{
+    let mut lengths = [0u16; Sheet::TASKS];
+    let mut periods = [0u16; Sheet::TASKS];
+    let mut dues = [0usize; Sheet::TASKS];
+    let mut i: usize = 0;
+    while i < Sheet::TASKS {
+        let task = sheet.tasks[i];
+        lengths[i] = task.length.0;
+        periods[i] = task.period.0;
+        dues[i] = task.deadline.0 as usize;
+        i += 1;
+    }
+    Times {
+        lengths: lengths,
+        periods: periods,
+        dues: dues,
+    }
+}
+
+// What falls due at t. A task whose job does so waits for its next one, a period later, so that no interval takes a division.
+pub(crate) fn advance(
+    lengths: &[u16; Sheet::TASKS],
+    periods: &[u16; Sheet::TASKS],
+    dues: &mut [usize; Sheet::TASKS],
+    count: usize,
+    t: usize,
+) -> u64
+    requires { ⌜ length (now dues) ≡ taskLimit ⌝ }
+    requires { ⌜ count ≤ taskLimit ⌝ }
+    requires { ⌜ t ≤ longestTime ⌝ }
+    ensures { λ r. ⌜ Advanced (now (lengths .entry)) (now (periods .entry)) (now (dues .entry)) (now (dues .exit)) count t r ⌝ }
+{
+    let mut work: u64 = 0;
+    let mut i: usize = 0;
+    while i < count {
+        if dues[i] == t {
+            work += wide(lengths[i]);
+            dues[i] = t + wide(periods[i]) as usize;
+        }
+        i += 1;
+    }
+    work
+}
+
+fn wide(time: u16) -> u64
+    ensures { λ r. ⌜ (r ≡ time) × (r ≤ longestTime) ⌝ }
+{
+    time as u64
+}

@@ -1,0 +1,20 @@
+-- `wrong_length` meets its contract: it reads the tag's line.
+use Rattle.fields.proofs.Deciding.{judging}
+use Rattle.rules.proofs.wrong_length.Statement.{statement}
+use Rattle.rules.specs.Rules.{wrongLength}
+use borrow.Author.Needs.{needs}
+use Rattle.rules.proofs.wrong_length.Tie as tie
+
+line-of-requires : tie.Need-line-of-requires
+line-of-requires c κs = search needs
+
+returns : tie.Need-returns
+unfolding wrongLength
+returns c = rw (← c .before .before .line-of .ensures) (search judging)
+
+returns-2 : tie.Need-returns-2
+unfolding wrongLength
+returns-2 c = rw (← c .before .before .before .line-of .ensures) (search judging)
+
+pub wrong-length-spec : {M : Type 1} → statement M
+wrong-length-spec = tie.close (tie.spec line-of-requires returns returns-2)

@@ -1,0 +1,102 @@
+-- The rules 3 and 5 to 10 on the tally and on values: a test for each, and the order in which a field's rules are tried.
+use Prim.Native.Nat.{ℕ, _+_, _-_, _*_}
+use mathlib.Core.List.{List, [], _∷_}
+use mathlib.Core.Bool.{Bool, true, false, not}
+use lib.ListN.{getD}
+use lib.Dec.{ltb, leb, eqb}
+use Rattle.sets.specs.Sets.{width, below, nextIn}
+use Rattle.sets.specs.declared.Next.{Next}
+use Rattle.sets.specs.declared.Next.the-variants.{At, Nothing}
+use Rattle.fields.specs.Deciding.{Rule, _when_, _or_, pick, anyFrom}
+use Rattle.fields.specs.Fields.{lineOf}
+use Rattle.fields.specs.Limits.{rpmLimit, headSize, gapSize}
+use Rattle.fields.specs.Values.{noRow}
+use Rattle.fields.specs.declared.units.Rpm.{Rpm}
+use Rattle.fields.specs.declared.units.Ticks.{Ticks}
+use Rattle.fields.specs.declared.values.Mode.{Mode}
+use Rattle.fields.specs.declared.values.Row.{Row}
+use Rattle.fields.specs.declared.values.Task.{Task}
+use Rattle.fields.specs.declared.values.Tally.{Tally}
+
+-- 3: a tag below the last known one, a second field of a kind that stands once, or a required kind passed over
+unfoldable pub outOfOrder : ℕ → ℕ → Bool
+outOfOrder last tag =
+    pick (ltb tag last) true
+    (pick (eqb tag last) (leb (lineOf tag .most) 1)
+    (anyFrom (λ passed. lineOf passed .required) (last + 1) (tag - (last + 1))))
+
+-- 5: a length that the tag's line does not allow
+unfoldable pub wrongLength : ℕ → ℕ → Bool
+wrongLength tag size = ltb size (lineOf tag .shortest) or ltb (lineOf tag .longest) size
+
+-- how many rows are in a follower set
+abbrev pub followerCount : ℕ → ℕ
+followerCount followers = below followers width
+
+-- 5: a row's length that is not its head and one gap for each row of its follower set
+unfoldable pub unlikeSet : ℕ → ℕ → Bool
+unlikeSet size followers = not (eqb size (headSize + gapSize * followerCount followers))
+
+-- 6: as many of the kind as a sheet may have
+unfoldable pub full : ℕ → ℕ → Bool
+full tag count = leb (lineOf tag .most) count
+
+-- 7: a byte outside 0x20 to 0x7E
+unfoldable pub badByte : ℕ → Bool
+badByte byte = ltb byte 0x20 or ltb 0x7E byte
+
+-- 7: a speed of 0 or above the highest
+unfoldable pub badRpm : Rpm → Bool
+badRpm speed = eqb (speed .0) 0 or ltb rpmLimit (speed .0)
+
+-- 7: a length, deadline or period of 0
+abbrev pub noTicks : Ticks → Bool
+noTicks time = eqb (time .0) 0
+
+-- whether a set has a next row
+abbrev pub isAt : Next → Bool
+isAt (At row) = true
+isAt Nothing = false
+
+-- 9 of one set: it has a row at or after the number of rows
+unfoldable pub unknownIn : ℕ → ℕ → Bool
+unknownIn followers rows = isAt (nextIn (width - rows) followers rows)
+
+-- 9: one of the rows names a row that does not exist
+unfoldable pub unknownFollower : List Row → ℕ → Bool
+unknownFollower rows count = anyFrom (λ k. unknownIn (getD rows k noRow .followers) count) 0 count
+
+-- the first rules of every known field: its place in the order, its length, its count
+unfoldable pub commonRules : ℕ → ℕ → Bool → ℕ → List Rule
+commonRules tag last wrong count =
+    3 when (outOfOrder last tag)
+    ∷ 5 when wrong
+    ∷ 6 when (full tag count)
+    ∷ []
+
+-- the rules of a mode's numbers
+unfoldable pub modeRules : Tally → Mode → List Rule
+modeRules tally mode =
+    7 when (badRpm (mode .boundary))
+    ∷ 7 when (noTicks (mode .length))
+    ∷ 8 when (leb (mode .boundary .0) (tally .top .0))
+    ∷ []
+
+-- the rules of a row's numbers, where it is known whether a gap is zero and whether one is below the deadline
+unfoldable pub rowRules : Tally → Row → Bool → Bool → List Rule
+rowRules tally row zero short =
+    7 when (badRpm (row .speed))
+    ∷ 7 when (noTicks (row .deadline))
+    ∷ 7 when zero
+    ∷ 8 when (leb (row .speed .0) (tally .fastest .0))
+    ∷ 8 when (ltb (tally .top .0) (row .speed .0))
+    ∷ 10 when short
+    ∷ []
+
+-- the rules of a fixed task's numbers
+unfoldable pub taskRules : Task → List Rule
+taskRules task =
+    7 when (noTicks (task .length))
+    ∷ 7 when (noTicks (task .period))
+    ∷ 7 when (noTicks (task .deadline))
+    ∷ []

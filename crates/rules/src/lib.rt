@@ -1,0 +1,188 @@
+// The rules of document 01 as functions on the tally and on values: a test for each, and for each list of rules the number of the first that is broken.
+use fields::table::line_of;
+use fields::units::Rpm;
+use fields::values::Mode;
+use fields::values::Row;
+use fields::values::Sheet;
+use fields::values::Tally;
+use fields::values::Task;
+use fields::values::row_of;
+ghost use mathlib.Core.Path.{_≡_};
+ghost use Rattle.fields.specs.Deciding.{firstBroken};
+ghost use Rattle.rules.specs.Rules.{outOfOrder, wrongLength, full, badByte, badRpm, unlikeSet, unknownIn, unknownFollower, commonRules, modeRules, rowRules, taskRules};
+
+// The first rules of every known field: its place in the order, its length, its count. 0 where none is broken.
+pub fn common_number(tag: usize, last: usize, wrong: bool, count: usize) -> u8
+    ensures { λ r. ⌜ r ≡ firstBroken (commonRules tag last wrong count) ⌝ }
+{
+    let misplaced = out_of_order(last, tag);
+    let full = full_of(tag, count);
+    if misplaced {
+        return 3;
+    }
+    if wrong {
+        return 5;
+    }
+    if full {
+        return 6;
+    }
+    0
+}
+
+// The rules of a mode's numbers.
+pub fn mode_number(tally: Tally, mode: Mode) -> u8
+    ensures { λ r. ⌜ r ≡ firstBroken (modeRules tally mode) ⌝ }
+{
+    let boundary = mode.boundary;
+    let length = mode.length;
+    if bad_rpm(boundary) {
+        return 7;
+    }
+    if length.0 == 0 {
+        return 7;
+    }
+    if boundary.at_most(tally.top) {
+        return 8;
+    }
+    0
+}
+
+// The rules of a row's numbers; of its gaps it is told whether one is zero and whether one is below the deadline.
+pub fn row_number(tally: Tally, row: Row, zero: bool, short: bool) -> u8
+    ensures { λ r. ⌜ r ≡ firstBroken (rowRules tally row zero short) ⌝ }
+{
+    let speed = row.speed;
+    let deadline = row.deadline;
+    if bad_rpm(speed) {
+        return 7;
+    }
+    if deadline.0 == 0 {
+        return 7;
+    }
+    if zero {
+        return 7;
+    }
+    if speed.at_most(tally.fastest) {
+        return 8;
+    }
+    if speed.above(tally.top) {
+        return 8;
+    }
+    if short {
+        return 10;
+    }
+    0
+}
+
+// The rules of a fixed task's numbers.
+pub fn task_number(task: Task) -> u8
+    ensures { λ r. ⌜ r ≡ firstBroken (taskRules task) ⌝ }
+{
+    let length = task.length;
+    let period = task.period;
+    let deadline = task.deadline;
+    if length.0 == 0 {
+        return 7;
+    }
+    if period.0 == 0 {
+        return 7;
+    }
+    if deadline.0 == 0 {
+        return 7;
+    }
+    0
+}
+
+// Rule 3: a tag below the last known one, a second field of a kind that stands once, or a required kind passed over.
+pub fn out_of_order(last: usize, tag: usize) -> bool
+    ensures { λ r. ⌜ r ≡ outOfOrder last tag ⌝ }
+{
+    if tag < last {
+        return true;
+    }
+    let line = line_of(tag);
+    if tag == last {
+        return line.most <= 1;
+    }
+    let mut passed = last + 1;
+    while passed < tag {
+        let missing = line_of(passed);
+        if missing.required {
+            return true;
+        }
+        passed += 1;
+    }
+    false
+}
+
+// Rule 5: a length that the tag's line does not allow.
+pub fn wrong_length(tag: usize, size: usize) -> bool
+    ensures { λ r. ⌜ r ≡ wrongLength tag size ⌝ }
+{
+    let line = line_of(tag);
+    if size < line.shortest {
+        return true;
+    }
+    line.longest < size
+}
+
+// Rule 5 of a row: a length that is not its head and two bytes for each row of the follower set.
+pub fn unlike_set(size: usize, followers: u64) -> bool
+    ensures { λ r. ⌜ r ≡ unlikeSet size followers ⌝ }
+{
+    size != Sheet::HEAD + Sheet::GAP * sets::size(followers)
+}
+
+// Rule 6: as many of the kind as a sheet may have.
+pub fn full_of(tag: usize, count: usize) -> bool
+    ensures { λ r. ⌜ r ≡ full tag count ⌝ }
+{
+    let line = line_of(tag);
+    line.most <= count
+}
+
+// Rule 7 of a label's byte.
+pub fn bad_byte(byte: u8) -> bool
+    ensures { λ r. ⌜ r ≡ badByte byte ⌝ }
+{
+    if byte < 0x20 {
+        return true;
+    }
+    0x7E < byte
+}
+
+// Rule 7 of a speed.
+pub fn bad_rpm(speed: Rpm) -> bool
+    ensures { λ r. ⌜ r ≡ badRpm speed ⌝ }
+{
+    if speed.0 == 0 {
+        return true;
+    }
+    Sheet::RPM < speed.0
+}
+
+// Rule 9 of one follower set: it has a row that is not among the sheet's.
+pub fn unknown_in(followers: u64, rows: usize) -> bool
+    ensures { λ r. ⌜ r ≡ unknownIn followers rows ⌝ }
+{
+    let next = sets::next_from(followers, rows);
+    match next {
+        sets::Next::At(_) => true,
+        sets::Next::Nothing => false,
+    }
+}
+
+// Rule 9: one of `count` rows names a row that does not exist.
+pub fn unknown_follower(rows: [Row; Sheet::ROWS], count: usize) -> bool
+    ensures { λ r. ⌜ r ≡ unknownFollower rows count ⌝ }
+{
+    let mut number: usize = 0;
+    while number < count {
+        let row = row_of(rows, number);
+        if unknown_in(row.followers, count) {
+            return true;
+        }
+        number += 1;
+    }
+    false
+}

@@ -1,0 +1,6 @@
+pub mod Followers
+pub mod Adding
+pub mod Lines
+pub mod Storing
+pub mod SheetTables
+pub mod Amounts

@@ -1,0 +1,6 @@
+pub mod Lengths
+pub mod Followers
+pub mod Adding
+pub mod Lines
+pub mod Amounts
+pub mod Either

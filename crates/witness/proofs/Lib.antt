@@ -1,0 +1,5 @@
+pub mod Searches
+pub mod Leading
+pub mod Witnesses
+pub mod Steps
+pub mod Writing
