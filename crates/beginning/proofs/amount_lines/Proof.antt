@@ -5,12 +5,6 @@ use Rattle.beginning.proofs.Beginnings.{amount-beyond, amount-within}
 use Rattle.beginning.proofs.amount_lines.Statement.{statement}
 use Rattle.beginning.proofs.amount_lines.Tie as tie
 
-cast-if1 : tie.Need-cast-if1
-cast-if1 c = search needs
-
-add-if1 : tie.Need-add-if1
-add-if1 c = search needs
-
 returns : tie.Need-returns
 returns c = (amount-beyond _ (c .if1 .taken), omega arith)
 
@@ -18,4 +12,10 @@ returns-2 : tie.Need-returns-2
 returns-2 c = (amount-within _ (c .if1 .left), omega (arith, c .if1 .left))
 
 pub amount-lines-spec : {M : Type 1} → statement M
-amount-lines-spec = tie.close (tie.spec cast-if1 add-if1 returns returns-2)
+amount-lines-spec =
+    tie.close
+    (tie.spec
+    (λ c. search needs)
+    (λ c. search needs)
+    returns
+    returns-2)

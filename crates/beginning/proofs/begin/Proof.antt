@@ -15,18 +15,6 @@ use native.Mathlib.Nat.{mul-le-mul}
 use native.Mathlib.Omega.{arith}
 use Rattle.beginning.proofs.begin.Tie as tie
 
-judge-requires : tie.Need-judge-requires
-judge-requires c κs = search needs
-
-enum-told : tie.Need-enum-told
-enum-told c = search needs
-
-enum-told-2 : tie.Need-enum-told-2
-enum-told-2 c = search needs
-
-refused-requires : tie.Need-refused-requires
-refused-requires c κs = search needs
-
 -- where the answer is known, the judge's answer is
 accepted : (c : tie.After-enum-told2) → judged (now (c .before .before .before .before .before .before .args .bytes)) .answer ≡ Accepted
 accepted c = sym (ap (λ (j : Judged). j .answer) (c .before .before .before .before .judge .ensures)) ∙ c .enum-told2 .given .1
@@ -44,9 +32,6 @@ mul-if2 : tie.Need-mul-if2
 mul-if2 c =
     let few = rows-few (c .before .before) in
     omega (arith, mul-le-mul few (c .before .before .before .before .before .before .before .before .pre))
-
-refused-requires-2 : tie.Need-refused-requires-2
-refused-requires-2 c κs = search needs
 
 returns-2 : tie.Need-returns-2
 returns-2 c =
@@ -69,13 +54,13 @@ pub begin-spec : {M : Type 1} → statement M
 begin-spec =
     tie.close
     (tie.spec
-    judge-requires
-    enum-told
-    enum-told-2
-    refused-requires
+    (λ c κs. search needs)
+    (λ c. search needs)
+    (λ c. search needs)
+    (λ c κs. search needs)
     returns
     mul-if2
-    refused-requires-2
+    (λ c κs. search needs)
     returns-2
     returns-3
     returns-4)

@@ -4,14 +4,13 @@ use Rattle.beginning.proofs.Beginnings.{begun-in-lines, amount-some}
 use Rattle.beginning.proofs.begin_amount.Statement.{statement}
 use Rattle.beginning.proofs.begin_amount.Tie as tie
 
-amount-lines-requires : tie.Need-amount-lines-requires
-amount-lines-requires c κs = search needs
-
-begin-requires : tie.Need-begin-requires
-begin-requires c κs = search needs
-
 returns : tie.Need-returns
 returns c = begun-in-lines _ _ _ _ _ _ (c .before .amount-lines .ensures .0) (amount-some _) (c .begin .ensures)
 
 pub begin-amount-spec : {M : Type 1} → statement M
-begin-amount-spec = tie.close (tie.spec amount-lines-requires begin-requires returns)
+begin-amount-spec =
+    tie.close
+    (tie.spec
+    (λ c κs. search needs)
+    (λ c κs. search needs)
+    returns)

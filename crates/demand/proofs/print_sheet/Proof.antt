@@ -10,12 +10,6 @@ use Rattle.sheet.specs.declared.Judged.{Judged}
 use Rattle.demand.proofs.print_sheet.Statement.{statement}
 use Rattle.demand.proofs.print_sheet.Tie as tie
 
-judge-requires : tie.Need-judge-requires
-judge-requires c κs = search needs
-
-enum-told : tie.Need-enum-told
-enum-told c = search needs
-
 print-accepted-requires : tie.Need-print-accepted-requires
 print-accepted-requires c κs =
     let j = c .before .before .before in
@@ -24,26 +18,14 @@ print-accepted-requires c κs =
     let proper = accepted-proper bytes (λ i. omega (arith, j .before .shared-slice-known .given i)) accepted in
     rw (j .judge .ensures) (proper .rows-some, proper .rows-most)
 
-enum-known-answer : tie.Need-enum-known-answer
-enum-known-answer c = search needs
-
-print-refusal-requires : tie.Need-print-refusal-requires
-print-refusal-requires c κs = search needs
-
-returns : tie.Need-returns
-returns c = search needs
-
-returns-2 : tie.Need-returns-2
-returns-2 c = search needs
-
 pub print-sheet-spec : {M : Type 1} → statement M
 print-sheet-spec =
     tie.close
     (tie.spec
-    judge-requires
-    enum-told
+    (λ c κs. search needs)
+    (λ c. search needs)
     print-accepted-requires
-    enum-known-answer
-    print-refusal-requires
-    returns
-    returns-2)
+    (λ c. search needs)
+    (λ c κs. search needs)
+    (λ c. search needs)
+    (λ c. search needs))

@@ -23,9 +23,6 @@ demand-of-requires c κs =
     let b = c .before .before .before .before in
     lines-upto _ (b .args .rows) (b .args .horizon) (c .before .loop .interval) (c .loop-test .taken) (b .pre .1)
 
-print-step-requires : tie.Need-print-step-requires Inv-loop μ-loop
-print-step-requires c κs = search needs
-
 add-next-rise : tie.Need-add-next-rise Inv-loop μ-loop
 add-next-rise c = omega (arith, c .before .before .loop-test .taken, c .before .before .before .before .before .before .pre .0)
 
@@ -40,9 +37,6 @@ loop-less c = omega (arith, c .before .before .before .loop-test .taken, c .next
 loop-again : tie.Need-loop-again Inv-loop μ-loop
 loop-again c = c .next-rise2 .ensures .at-most
 
-returns : tie.Need-returns Inv-loop μ-loop
-returns c = search needs
-
 pub print-steps-spec : {M : Type 1} → statement M
 print-steps-spec =
     tie.close
@@ -52,9 +46,9 @@ print-steps-spec =
     next-rise-requires
     loop-holds
     demand-of-requires
-    print-step-requires
+    (λ c κs. search needs)
     add-next-rise
     next-rise-requires-2
     loop-less
     loop-again
-    returns)
+    (λ c. search needs))

@@ -14,15 +14,6 @@ use mathlib.Core.Path.{refl}
 use native.Mathlib.Omega.{arith}
 use Rattle.desk.proofs.margin.Tie as tie
 
-begin-interval-requires : tie.Need-begin-interval-requires
-begin-interval-requires c κs = search needs
-
-enum-known-answer : tie.Need-enum-known-answer
-enum-known-answer c = search needs
-
-enum-told : tie.Need-enum-told
-enum-told c = search needs
-
 -- what is known where the call goes on
 going : (c : tie.After-enum-told) →
     let a = c .before .before .before .before .before .before .args in
@@ -41,9 +32,6 @@ returns c =
     let b = c .before .before .before .before .begin-interval in
     begun-refused _ _ _ _ (b .result) (b .ensures) _ _ (c .before .answer .given .1) _ _ (refl, refl)
 
-same-length : tie.Need-same-length
-same-length c = search needs
-
 returns-2 : tie.Need-returns-2
 unfolding MarginCall
 returns-2 c = goes-answering _ _ _ _ _ (going (c .before .before .before .before)) _ _ (c .before .before .margin-in .ensures)
@@ -52,10 +40,10 @@ pub margin-spec : {M : Type 1} → statement M
 margin-spec =
     tie.close
     (tie.spec
-    begin-interval-requires
-    enum-known-answer
-    enum-told
+    (λ c κs. search needs)
+    (λ c. search needs)
+    (λ c. search needs)
     margin-in-requires
     returns
-    same-length
+    (λ c. search needs)
     returns-2)

@@ -11,15 +11,6 @@ use mathlib.Core.Path.{refl}
 use native.Mathlib.Omega.{arith}
 use Rattle.desk.proofs.shortest.Tie as tie
 
-begin-amount-requires : tie.Need-begin-amount-requires
-begin-amount-requires c κs = search needs
-
-enum-known-answer : tie.Need-enum-known-answer
-enum-known-answer c = search needs
-
-enum-told : tie.Need-enum-told
-enum-told c = search needs
-
 -- what is known where the call goes on
 going : (c : tie.After-enum-told) →
     let a = c .before .before .before .before .before .before .args in
@@ -38,9 +29,6 @@ returns c =
     let b = c .before .before .before .before .begin-amount in
     begun-refused _ _ _ _ (b .result) (b .ensures) _ _ (c .before .answer .given .1) _ _ (refl, refl)
 
-same-length : tie.Need-same-length
-same-length c = search needs
-
 returns-2 : tie.Need-returns-2
 unfolding ShortestCall
 returns-2 c = goes-answering _ _ _ _ _ (going (c .before .before .before .before)) _ _ (c .before .before .shortest-in .ensures)
@@ -49,10 +37,10 @@ pub shortest-spec : {M : Type 1} → statement M
 shortest-spec =
     tie.close
     (tie.spec
-    begin-amount-requires
-    enum-known-answer
-    enum-told
+    (λ c κs. search needs)
+    (λ c. search needs)
+    (λ c. search needs)
     shortest-in-requires
     returns
-    same-length
+    (λ c. search needs)
     returns-2)

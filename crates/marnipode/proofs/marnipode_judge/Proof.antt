@@ -5,14 +5,13 @@ use Rattle.numbers.specs.Flat.{flatJudged}
 use Rattle.marnipode.proofs.marnipode_judge.Statement.{statement}
 use Rattle.marnipode.proofs.marnipode_judge.Tie as tie
 
-judge-requires : tie.Need-judge-requires
-judge-requires c κs = search needs
-
-judge-numbers-requires : tie.Need-judge-numbers-requires
-judge-numbers-requires c κs = search needs
-
 returns : tie.Need-returns
 returns c = c .judge-numbers .ensures ∙ ap flatJudged (c .before .judge .ensures)
 
 pub marnipode-judge-spec : {M : Type 1} → statement M
-marnipode-judge-spec = tie.close (tie.spec judge-requires judge-numbers-requires returns)
+marnipode-judge-spec =
+    tie.close
+    (tie.spec
+    (λ c κs. search needs)
+    (λ c κs. search needs)
+    returns)

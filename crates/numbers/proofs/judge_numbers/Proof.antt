@@ -4,12 +4,6 @@ use mathlib.Core.Path.{refl}
 use Rattle.numbers.proofs.judge_numbers.Statement.{statement}
 use Rattle.numbers.proofs.judge_numbers.Tie as tie
 
-enum-told : tie.Need-enum-told
-enum-told c = search needs
-
-enum-known-answer : tie.Need-enum-known-answer
-enum-known-answer c = search needs
-
 returns : tie.Need-returns
 returns c = rw (c .enum-told .given .1) refl
 
@@ -17,4 +11,10 @@ returns-2 : tie.Need-returns-2
 returns-2 c = rw (c .before .answer .given .1) refl
 
 pub judge-numbers-spec : {M : Type 1} → statement M
-judge-numbers-spec = tie.close (tie.spec enum-told enum-known-answer returns returns-2)
+judge-numbers-spec =
+    tie.close
+    (tie.spec
+    (λ c. search needs)
+    (λ c. search needs)
+    returns
+    returns-2)

@@ -6,12 +6,6 @@ use Rattle.numbers.specs.Flat.{flatMargin}
 use Rattle.numbers.proofs.margin_numbers.Statement.{statement}
 use Rattle.numbers.proofs.margin_numbers.Tie as tie
 
-enum-known-answer : tie.Need-enum-known-answer
-enum-known-answer c = search needs
-
-enum-known-answer-2 : tie.Need-enum-known-answer-2
-enum-known-answer-2 c = search needs
-
 returns : tie.Need-returns
 returns c = rw (toZ-ofZ (sfits-of (c .known-told .given .0 .1))) (ap flatMargin (sym (c .before .answer .given .1)))
 
@@ -19,4 +13,10 @@ returns-2 : tie.Need-returns-2
 returns-2 c = ap flatMargin (sym (c .before .answer2 .given .1))
 
 pub margin-numbers-spec : {M : Type 1} → statement M
-margin-numbers-spec = tie.close (tie.spec enum-known-answer enum-known-answer-2 returns returns-2)
+margin-numbers-spec =
+    tie.close
+    (tie.spec
+    (λ c. search needs)
+    (λ c. search needs)
+    returns
+    returns-2)

@@ -5,15 +5,6 @@ use Rattle.numbers.specs.Flat.{flatVerdict}
 use Rattle.numbers.proofs.verdict_numbers.Statement.{statement}
 use Rattle.numbers.proofs.verdict_numbers.Tie as tie
 
-enum-told : tie.Need-enum-told
-enum-told c = search needs
-
-enum-known-answer : tie.Need-enum-known-answer
-enum-known-answer c = search needs
-
-enum-known-answer-2 : tie.Need-enum-known-answer-2
-enum-known-answer-2 c = search needs
-
 returns : tie.Need-returns
 returns c = ap flatVerdict (sym (c .enum-told .given .1))
 
@@ -26,4 +17,10 @@ returns-3 c = ap flatVerdict (sym (c .before .answer2 .given .1))
 pub verdict-numbers-spec : {M : Type 1} → statement M
 verdict-numbers-spec =
     tie.close
-    (tie.spec enum-told enum-known-answer enum-known-answer-2 returns returns-2 returns-3)
+    (tie.spec
+    (λ c. search needs)
+    (λ c. search needs)
+    (λ c. search needs)
+    returns
+    returns-2
+    returns-3)

@@ -4,12 +4,13 @@ use Rattle.rules.specs.Rules.{full}
 use borrow.Author.Needs.{needs}
 use Rattle.rules.proofs.full_of.Tie as tie
 
-line-of-requires : tie.Need-line-of-requires
-line-of-requires c κs = search needs
-
 returns : tie.Need-returns
 unfolding full
 returns c = rw (c .before .line-of .ensures)
 
 pub full-of-spec : {M : Type 1} → statement M
-full-of-spec = tie.close (tie.spec line-of-requires returns)
+full-of-spec =
+    tie.close
+    (tie.spec
+    (λ c κs. search needs)
+    returns)

@@ -20,33 +20,18 @@ returns : tie.Need-returns Inv-loop μ-loop
 unfolding outOfOrder
 returns c = search judging
 
-line-of-requires : tie.Need-line-of-requires Inv-loop μ-loop
-line-of-requires c κs = search needs
-
 returns-2 : tie.Need-returns-2 Inv-loop μ-loop
 unfolding outOfOrder
 returns-2 c = rw (← c .before .before .line-of .ensures) (search judging)
-
-add-passed : tie.Need-add-passed Inv-loop μ-loop
-add-passed c = omega arith
 
 loop-holds : tie.Need-loop-holds Inv-loop μ-loop
 unfolding outOfOrder
 loop-holds c = sym (search judging)
 
-line-of-requires-2 : tie.Need-line-of-requires-2 Inv-loop μ-loop
-line-of-requires-2 c κs = search needs
-
 returns-3 : tie.Need-returns-3 Inv-loop μ-loop
 returns-3 c =
     let l = c .before .before .before .loop in
     sym (l .inv ∙ any-hit _ _ _ (c .before .before .loop-test .taken) (told _ _ _ (ap (λ j. j .required) (c .before .line-of2 .ensures)) (c .if3 .taken)))
-
-add-passed-2 : tie.Need-add-passed-2 Inv-loop μ-loop
-add-passed-2 c = omega arith
-
-loop-less : tie.Need-loop-less Inv-loop μ-loop
-loop-less c = omega arith
 
 loop-again : tie.Need-loop-again Inv-loop μ-loop
 loop-again c =
@@ -63,13 +48,13 @@ out-of-order-spec =
     Inv-loop
     μ-loop
     returns
-    line-of-requires
+    (λ c κs. search needs)
     returns-2
-    add-passed
+    (λ c. omega arith)
     loop-holds
-    line-of-requires-2
+    (λ c κs. search needs)
     returns-3
-    add-passed-2
-    loop-less
+    (λ c. omega arith)
+    (λ c. omega arith)
     loop-again
     returns-4)

@@ -22,22 +22,10 @@ loop-holds : tie.Need-loop-holds Inv-loop μ-loop
 unfolding unknownFollower
 loop-holds c = rw sub-zero refl
 
-row-of-requires : tie.Need-row-of-requires Inv-loop μ-loop
-row-of-requires c κs = search needs
-
-unknown-in-requires : tie.Need-unknown-in-requires Inv-loop μ-loop
-unknown-in-requires c κs = search needs
-
 returns : tie.Need-returns Inv-loop μ-loop
 returns c =
     let l = c .before .before .before .before .loop in
     sym (l .inv ∙ any-hit _ _ _ (c .before .before .before .loop-test .taken) (rw (← c .before .before .row-of .ensures) (told _ _ _ (c .before .unknown-in .ensures) (c .if1 .taken))))
-
-add-number : tie.Need-add-number Inv-loop μ-loop
-add-number c = omega arith
-
-loop-less : tie.Need-loop-less Inv-loop μ-loop
-loop-less c = omega arith
 
 loop-again : tie.Need-loop-again Inv-loop μ-loop
 loop-again c =
@@ -54,10 +42,10 @@ unknown-follower-spec =
     Inv-loop
     μ-loop
     loop-holds
-    row-of-requires
-    unknown-in-requires
+    (λ c κs. search needs)
+    (λ c κs. search needs)
     returns
-    add-number
-    loop-less
+    (λ c. omega arith)
+    (λ c. omega arith)
     loop-again
     returns-2)

@@ -4,15 +4,6 @@ use Rattle.rules.specs.Rules.{unknownIn}
 use borrow.Author.Needs.{needs}
 use Rattle.rules.proofs.unknown_in.Tie as tie
 
-next-from-requires : tie.Need-next-from-requires
-next-from-requires c κs = search needs
-
-enum-told : tie.Need-enum-told
-enum-told c = search needs
-
-enum-told-2 : tie.Need-enum-told-2
-enum-told-2 c = search needs
-
 returns : tie.Need-returns
 unfolding unknownIn
 returns c = rw (← c .before .before .next-from .ensures) (rw (c .enum-told .given .1))
@@ -22,4 +13,11 @@ unfolding unknownIn
 returns-2 c = rw (← c .before .before .next-from .ensures) (rw (c .enum-told2 .given .1))
 
 pub unknown-in-spec : {M : Type 1} → statement M
-unknown-in-spec = tie.close (tie.spec next-from-requires enum-told enum-told-2 returns returns-2)
+unknown-in-spec =
+    tie.close
+    (tie.spec
+    (λ c κs. search needs)
+    (λ c. search needs)
+    (λ c. search needs)
+    returns
+    returns-2)

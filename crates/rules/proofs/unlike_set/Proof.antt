@@ -5,18 +5,15 @@ use borrow.Author.Needs.{needs}
 use mathlib.Core.Path.{refl}
 use Rattle.rules.proofs.unlike_set.Tie as tie
 
-size-requires : tie.Need-size-requires
-size-requires c κs = search needs
-
-mul-result : tie.Need-mul-result
-mul-result c = search needs
-
-add-result : tie.Need-add-result
-add-result c = search needs
-
 returns : tie.Need-returns
 unfolding unlikeSet
 returns c = rw (c .size .ensures .0) refl
 
 pub unlike-set-spec : {M : Type 1} → statement M
-unlike-set-spec = tie.close (tie.spec size-requires mul-result add-result returns)
+unlike-set-spec =
+    tie.close
+    (tie.spec
+    (λ c κs. search needs)
+    (λ c. search needs)
+    (λ c. search needs)
+    returns)

@@ -5,9 +5,6 @@ use Rattle.rules.specs.Rules.{wrongLength}
 use borrow.Author.Needs.{needs}
 use Rattle.rules.proofs.wrong_length.Tie as tie
 
-line-of-requires : tie.Need-line-of-requires
-line-of-requires c κs = search needs
-
 returns : tie.Need-returns
 unfolding wrongLength
 returns c = rw (← c .before .before .line-of .ensures) (search judging)
@@ -17,4 +14,9 @@ unfolding wrongLength
 returns-2 c = rw (← c .before .before .before .line-of .ensures) (search judging)
 
 pub wrong-length-spec : {M : Type 1} → statement M
-wrong-length-spec = tie.close (tie.spec line-of-requires returns returns-2)
+wrong-length-spec =
+    tie.close
+    (tie.spec
+    (λ c κs. search needs)
+    returns
+    returns-2)

@@ -5,22 +5,13 @@ use Rattle.sets.proofs.Counts.{below-past, mask-pos, below-low}
 use Rattle.sets.proofs.below_row.Statement.{statement}
 use Rattle.sets.proofs.below_row.Tie as tie
 
-size-requires : tie.Need-size-requires
-size-requires c κs = search needs
-
 returns : tie.Need-returns
 returns c =
     let all = c .size .ensures in
     (all .0 ∙ sym (below-past 64 (c .before .before .args .set) (c .before .before .args .row) (search needs) (c .before .if1 .taken)), all .1)
 
-shl-size : tie.Need-shl-size
-shl-size c = search needs
-
 rem-size : tie.Need-rem-size
 rem-size c = mask-pos 64 (c .before .args .set) (c .before .args .row) (search needs) (search needs)
-
-size-requires-2 : tie.Need-size-requires-2
-size-requires-2 c κs = search needs
 
 returns-2 : tie.Need-returns-2
 returns-2 c =
@@ -29,4 +20,11 @@ returns-2 c =
 
 pub below-row-spec : {M : Type 1} → statement M
 below-row-spec =
-    tie.close (tie.spec size-requires returns shl-size rem-size size-requires-2 returns-2)
+    tie.close
+    (tie.spec
+    (λ c κs. search needs)
+    returns
+    (λ c. search needs)
+    rem-size
+    (λ c κs. search needs)
+    returns-2)

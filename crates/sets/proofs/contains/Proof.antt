@@ -7,14 +7,13 @@ use Rattle.sets.proofs.Bits.{bit-zero-past}
 use Rattle.sets.proofs.contains.Statement.{statement}
 use Rattle.sets.proofs.contains.Tie as tie
 
-shr-result : tie.Need-shr-result
-shr-result c = search needs
-
-returns : tie.Need-returns
-returns c = search needs
-
 returns-2 : tie.Need-returns-2
 returns-2 c = sym (ap (λ (x : ℕ). eqb x 1) (bit-zero-past 64 (c .before .args .set) (c .before .args .row) (search needs) (c .if1 .left)))
 
 pub contains-spec : {M : Type 1} → statement M
-contains-spec = tie.close (tie.spec shr-result returns returns-2)
+contains-spec =
+    tie.close
+    (tie.spec
+    (λ c. search needs)
+    (λ c. search needs)
+    returns-2)

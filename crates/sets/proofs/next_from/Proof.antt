@@ -11,9 +11,6 @@ use Rattle.sets.proofs.next_from.Tie as tie
 returns : tie.Need-returns
 returns c = sym (past 64 _ _ (c .if1 .taken))
 
-shr-rest : tie.Need-shr-rest
-shr-rest c = search needs
-
 returns-2 : tie.Need-returns-2
 returns-2 c = sym (none _ _ _ (c .if2 .taken))
 
@@ -27,4 +24,12 @@ returns-3 : tie.Need-returns-3
 returns-3 c = sym (some-at 64 _ _ (search needs) (c .if2 .left))
 
 pub next-from-spec : {M : Type 1} → statement M
-next-from-spec = tie.close (tie.spec returns shr-rest returns-2 cast-row add-row returns-3)
+next-from-spec =
+    tie.close
+    (tie.spec
+    returns
+    (λ c. search needs)
+    returns-2
+    cast-row
+    add-row
+    returns-3)

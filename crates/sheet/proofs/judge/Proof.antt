@@ -16,9 +16,6 @@ Inv-loop bytes sheet₀ at₀ sheet at = (n : ℕ) × (at ≤ length bytes) × (
 abbrev μ-loop : tie.MeasureT-loop
 μ-loop bytes sheet₀ at₀ sheet at = length bytes - at
 
-empty-requires : tie.Need-empty-requires Inv-loop μ-loop
-empty-requires c κs = search needs
-
 -- the field that was read lies in the file
 lies : (c : tie.After-known-told2 Inv-loop μ-loop) →
     let v = c .before .step2 .given .0 in
@@ -31,40 +28,19 @@ loop-holds c =
     let l = length (now (c .before .before .args .bytes)) in
     (l + 1, omega arith, omega arith, rw (c .empty .ensures) refl)
 
-field-at-requires : tie.Need-field-at-requires Inv-loop μ-loop
-field-at-requires c κs = search needs
-
-enum-known-step : tie.Need-enum-known-step Inv-loop μ-loop
-enum-known-step c = search needs
-
-refused-requires : tie.Need-refused-requires Inv-loop μ-loop
-refused-requires c κs = search needs
-
 returns : tie.Need-returns Inv-loop μ-loop
 returns c =
     let l = c .before .before .before .before .before .loop .inv in
     c .refused .ensures ∙ sym (l .3 ∙ walk-refused _ _ _ _ (omega arith) _ _ _ (c .before .before .before .before .field-at .ensures) (c .before .before .step .given .1))
 
-enum-known-step-2 : tie.Need-enum-known-step-2 Inv-loop μ-loop
-enum-known-step-2 c = search needs
-
 field-number-requires : tie.Need-field-number-requires Inv-loop μ-loop
 field-number-requires c κs = omega (arith, lies c)
-
-refused-requires-2 : tie.Need-refused-requires-2 Inv-loop μ-loop
-refused-requires-2 c κs = search needs
 
 returns-2 : tie.Need-returns-2 Inv-loop μ-loop
 returns-2 c =
     let d = c .before .before .before in
     let l = d .before .before .before .before .loop .inv in
     c .refused2 .ensures ∙ sym (l .3 ∙ walk-broken _ _ _ _ (omega arith) _ _ _ _ _ (d .before .before .before .field-at .ensures) (d .before .step2 .given .1) _ (c .before .before .field-number .ensures) (c .before .if1 .taken))
-
-is-end-requires : tie.Need-is-end-requires Inv-loop μ-loop
-is-end-requires c κs = search needs
-
-judge-end-requires : tie.Need-judge-end-requires Inv-loop μ-loop
-judge-end-requires c κs = search needs
 
 returns-3 : tie.Need-returns-3 Inv-loop μ-loop
 returns-3 c =
@@ -96,18 +72,18 @@ judge-spec =
     (tie.spec
     Inv-loop
     μ-loop
-    empty-requires
+    (λ c κs. search needs)
     loop-holds
-    field-at-requires
-    enum-known-step
-    refused-requires
+    (λ c κs. search needs)
+    (λ c. search needs)
+    (λ c κs. search needs)
     returns
-    enum-known-step-2
+    (λ c. search needs)
     field-number-requires
-    refused-requires-2
+    (λ c κs. search needs)
     returns-2
-    is-end-requires
-    judge-end-requires
+    (λ c κs. search needs)
+    (λ c κs. search needs)
     returns-3
     with-field-requires
     loop-less

@@ -12,17 +12,8 @@ use Rattle.sheet.proofs.label.Tie as tie
 within : (c : tie.After-judge) → c .judge .result .sheet .label .start + c .judge .result .sheet .label .size ≤ length (now (c .before .before .args .bytes))
 within c = rw (c .judge .ensures) (label-inside (now (c .before .before .args .bytes)))
 
-judge-requires : tie.Need-judge-requires
-judge-requires c κs = search needs
-
 add-to : tie.Need-add-to
 add-to c = omega (arith, within (c .before .before .before))
-
-sub-result : tie.Need-sub-result
-sub-result c = search needs
-
-part-result-start : tie.Need-part-result-start
-part-result-start c = search needs
 
 part-result-end : tie.Need-part-result-end
 part-result-end c = omega (arith, within (c .before .before .before))
@@ -32,4 +23,11 @@ returns c = rw (add-sub-cancel-left, ← c .before .before .before .before .judg
 
 pub label-spec : {M : Type 1} → statement M
 label-spec =
-    tie.close (tie.spec judge-requires add-to sub-result part-result-start part-result-end returns)
+    tie.close
+    (tie.spec
+    (λ c κs. search needs)
+    add-to
+    (λ c. search needs)
+    (λ c. search needs)
+    part-result-end
+    returns)

@@ -47,12 +47,6 @@ returns c =
     let l = c .before .before .before in
     seek-is _ _ (l .loop .k) (c .before .before .loop-test .taken) (eq-eqb _ _ (c .if1 .taken)) (λ i h. ne-eqb _ _ (l .loop .inv .1 i h))
 
-add-k : tie.Need-add-k Inv-loop μ-loop
-add-k c = omega arith
-
-loop-less : tie.Need-loop-less Inv-loop μ-loop
-loop-less c = omega arith
-
 loop-again : tie.Need-loop-again Inv-loop μ-loop
 loop-again c =
     let l = c .before .before .before .loop in
@@ -73,7 +67,7 @@ first-with-spec =
     mul-if1
     shared-slice-read-if1
     returns
-    add-k
-    loop-less
+    (λ c. omega arith)
+    (λ c. omega arith)
     loop-again
     returns-2)

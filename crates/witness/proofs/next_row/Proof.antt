@@ -52,12 +52,6 @@ adds c =
 loop-holds : tie.Need-loop-holds Inv-loop μ-loop
 loop-holds c = sought-start _ _ _ _ _ _ _
 
-next-from-requires : tie.Need-next-from-requires Inv-loop μ-loop
-next-from-requires c κs = search needs
-
-enum-known-next : tie.Need-enum-known-next Inv-loop μ-loop
-enum-known-next c = search needs
-
 gap-at-requires : tie.Need-gap-at-requires Inv-loop μ-loop
 gap-at-requires c κs = gap-in (c .before)
 
@@ -92,9 +86,6 @@ loop-again c =
     let l = next .before .before .before in
     sought-next _ _ _ _ _ _ _ _ _ (l .loop .inv) _ (next-is next) (λ e. c .if1 .left (adds (c .before) ∙ e))
 
-enum-told : tie.Need-enum-told Inv-loop μ-loop
-enum-told c = search needs
-
 returns-2 : tie.Need-returns-2 Inv-loop μ-loop
 returns-2 c =
     let l = c .before .before .before in
@@ -109,8 +100,8 @@ next-row-spec =
     Inv-loop
     μ-loop
     loop-holds
-    next-from-requires
-    enum-known-next
+    (λ c κs. search needs)
+    (λ c. search needs)
     gap-at-requires
     added-requires
     returns
@@ -118,5 +109,5 @@ next-row-spec =
     add-from
     loop-less
     loop-again
-    enum-told
+    (λ c. search needs)
     returns-2)

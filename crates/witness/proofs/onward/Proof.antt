@@ -43,26 +43,11 @@ gap-is c =
     ∙ ap (λ (x : ℕ). wordAt (now (a .bytes)) (a .row .gaps + x)) (c .before .before .gap-place .ensures .0)
     ∙ sym (gap-of-follower (now (a .bytes)) (a .row) _ (follows next))
 
-sub-want : tie.Need-sub-want
-sub-want c = search needs
-
-next-row-requires : tie.Need-next-row-requires
-next-row-requires c κs = search needs
-
-gap-place-requires : tie.Need-gap-place-requires
-gap-place-requires c κs = search needs
-
-add-gap-at : tie.Need-add-gap-at
-add-gap-at c = search needs
-
 gap-at-requires : tie.Need-gap-at-requires
 gap-at-requires c κs =
     let next = c .before .before in
     let b = next .before .before .before .before in
     omega (arith, c .before .gap-place .ensures .0, gap-inside _ _ _ (b .pre .0) (set-fits b) (next .next-row .result) (follows next))
-
-cast-t11 : tie.Need-cast-t11
-cast-t11 c = search needs
 
 sub-t12 : tie.Need-sub-t12
 sub-t12 c =
@@ -75,4 +60,14 @@ unfolding onwardOf
 returns c = rw (gap-is (c .before), c .before .before .before .before .next-row .ensures)
 
 pub onward-spec : {M : Type 1} → statement M
-onward-spec = tie.close (tie.spec sub-want next-row-requires gap-place-requires add-gap-at gap-at-requires cast-t11 sub-t12 returns)
+onward-spec =
+    tie.close
+    (tie.spec
+    (λ c. search needs)
+    (λ c κs. search needs)
+    (λ c κs. search needs)
+    (λ c. search needs)
+    gap-at-requires
+    (λ c. search needs)
+    sub-t12
+    returns)

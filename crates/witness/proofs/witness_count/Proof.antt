@@ -39,9 +39,6 @@ returns c =
     let b = c .before .before .before .before .before .before in
     ap length (starts-none _ _ (b .pre .0) _ _ (b .pre .1 .1) _ (c .before .before .start .ensures) (c .if1 .taken))
 
-job-lengths-requires : tie.Need-job-lengths-requires Inv-loop μ-loop
-job-lengths-requires c κs = search needs
-
 loop-holds : tie.Need-loop-holds Inv-loop μ-loop
 loop-holds c =
     let b = c .before .before .before .before .before .before .before in
@@ -92,7 +89,7 @@ witness-count-spec =
     μ-loop
     start-requires
     returns
-    job-lengths-requires
+    (λ c κs. search needs)
     loop-holds
     add-count
     mul-own

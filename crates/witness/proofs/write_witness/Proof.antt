@@ -52,9 +52,6 @@ returns c =
     (starts-none _ _ (b .pre .0) _ _ (b .pre .1 .1 .0) _ (c .before .before .start .ensures) (c .if1 .taken))
     (written-none (now (b .args .area)))
 
-job-lengths-requires : tie.Need-job-lengths-requires Inv-loop μ-loop
-job-lengths-requires c κs = search needs
-
 loop-holds : tie.Need-loop-holds Inv-loop μ-loop
 loop-holds c =
     let b = c .before .before .before .before .before .before .before .before in
@@ -115,7 +112,7 @@ write-witness-spec =
     μ-loop
     start-requires
     returns
-    job-lengths-requires
+    (λ c κs. search needs)
     loop-holds
     cast-area
     slice-write-area

@@ -7,12 +7,6 @@ use Rattle.demand.proofs.Horizons.{lines-fit, fit-lines}
 use Rattle.demand.proofs.steps.horizon_of.Statement.{statement}
 use Rattle.demand.proofs.steps.horizon_of.Tie as tie
 
-div-lines : tie.Need-div-lines
-div-lines c = search needs
-
-cast-longest : tie.Need-cast-longest
-cast-longest c = search needs
-
 sub-result : tie.Need-sub-result
 sub-result c =
     let b = c .before in
@@ -39,4 +33,11 @@ returns-2 c =
     }
 
 pub horizon-of-spec : {M : Type 1} → statement M
-horizon-of-spec = tie.close (tie.spec div-lines cast-longest sub-result returns returns-2)
+horizon-of-spec =
+    tie.close
+    (tie.spec
+    (λ c. search needs)
+    (λ c. search needs)
+    sub-result
+    returns
+    returns-2)

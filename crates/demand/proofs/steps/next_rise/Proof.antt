@@ -50,9 +50,6 @@ returns c =
 add-interval : tie.Need-add-interval Inv-loop μ-loop
 add-interval c = omega (arith, c .before .before .before .before .before .before .pre .0)
 
-loop-less : tie.Need-loop-less Inv-loop μ-loop
-loop-less c = omega arith
-
 loop-again : tie.Need-loop-again Inv-loop μ-loop
 loop-again c =
     let l = c .before .before .before .loop in
@@ -87,6 +84,6 @@ next-rise-spec =
     demand-of-requires-2
     returns
     add-interval
-    loop-less
+    (λ c. omega arith)
     loop-again
     returns-2)

@@ -7,17 +7,14 @@ use borrow.Author.Needs.{needs}
 use mathlib.Core.Path.{sym, ap}
 use Rattle.desk.proofs.answering.as_answer.Tie as tie
 
-enum-told : tie.Need-enum-told
-enum-told c = search needs
-
-enum-known-swept : tie.Need-enum-known-swept
-enum-known-swept c = search needs
-
-returns : tie.Need-returns
-returns c = search needs
-
 returns-2 : tie.Need-returns-2
 returns-2 c = ap (λ (s : Swept). verdictAnswer (verdictOf s)) (sym (c .before .swept .given .1))
 
 pub as-answer-spec : {M : Type 1} → statement M
-as-answer-spec = tie.close (tie.spec enum-told enum-known-swept returns returns-2)
+as-answer-spec =
+    tie.close
+    (tie.spec
+    (λ c. search needs)
+    (λ c. search needs)
+    (λ c. search needs)
+    returns-2)

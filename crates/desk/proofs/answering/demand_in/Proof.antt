@@ -30,9 +30,6 @@ demand-of-requires c κs = table (c .before .before .before .before) .room
 witness-count-requires : tie.Need-witness-count-requires
 witness-count-requires c κs = (c .before .before .before .before .before .before .before .before .before .before .before .pre .0, (c .before .before .before .before .before .before .before .before .before .before .before .pre .1 .1 .0, table (c .before .before .before .before .before .before)))
 
-same-length : tie.Need-same-length
-same-length c = search needs
-
 returns : tie.Need-returns
 returns c =
     let s = c .before .before .before .before .before .before .before .before .before .before .before .before .before in
@@ -43,12 +40,6 @@ write-witness-requires : tie.Need-write-witness-requires
 write-witness-requires c κs =
     let s = c .before .before .before .before .before .before .before .before .before .before .before .before .before .before .before in
     (s .pre .0, (s .pre .1 .1 .0, (table (c .before .before .before .before .before .before .before .before .before .before), subst (λ (x : ℕ). x ≤ length (now (s .args .area))) (c .before .before .before .witness-count .ensures) (c .before .before .if1 .left))))
-
-same-length-2 : tie.Need-same-length-2
-same-length-2 c = search needs
-
-same-length-3 : tie.Need-same-length-3
-same-length-3 c = search needs
 
 returns-2 : tie.Need-returns-2
 returns-2 c =
@@ -65,9 +56,9 @@ demand-in-spec =
     fill-by-interval-requires
     demand-of-requires
     witness-count-requires
-    same-length
+    (λ c. search needs)
     returns
     write-witness-requires
-    same-length-2
-    same-length-3
+    (λ c. search needs)
+    (λ c. search needs)
     returns-2)

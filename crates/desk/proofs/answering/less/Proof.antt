@@ -4,12 +4,6 @@ use Rattle.meaning.proofs.Differences.{sub-fits64, sub-is64}
 use borrow.Author.Needs.{needs}
 use Rattle.desk.proofs.answering.less.Tie as tie
 
-cast-result : tie.Need-cast-result
-cast-result c = search needs
-
-cast-result-2 : tie.Need-cast-result-2
-cast-result-2 c = search needs
-
 sub-result : tie.Need-sub-result
 sub-result c = sub-fits64 _ _ (c .pre .0) (c .pre .1)
 
@@ -17,4 +11,10 @@ returns : tie.Need-returns
 returns c = sub-is64 _ _ (c .pre .0) (c .pre .1)
 
 pub less-spec : {M : Type 1} → statement M
-less-spec = tie.close (tie.spec cast-result cast-result-2 sub-result returns)
+less-spec =
+    tie.close
+    (tie.spec
+    (λ c. search needs)
+    (λ c. search needs)
+    sub-result
+    returns)

@@ -31,9 +31,6 @@ table c =
 demand-of-requires : tie.Need-demand-of-requires
 demand-of-requires c κs = table (c .before .before .before .before) .room
 
-cast-amount : tie.Need-cast-amount
-cast-amount c = search needs
-
 fixed-sum-requires : tie.Need-fixed-sum-requires
 fixed-sum-requires c κs = ((_, c .before .before .before .before .before .before .before .before .before .pre .0 .proper), c .before .before .before .before .before .before .before .before .before .pre .1 .1 .0)
 
@@ -49,9 +46,6 @@ add-less c = omega (arith, sum-fits c)
 less-requires : tie.Need-less-requires
 less-requires c κs = (omega arith, omega (arith, sum-fits c))
 
-same-length : tie.Need-same-length
-same-length c = search needs
-
 returns : tie.Need-returns
 returns c =
     let s = c .before .before .before .before .before .before .before .before .before .before .before in
@@ -66,9 +60,9 @@ margin-in-spec =
     (tie.spec
     fill-by-interval-requires
     demand-of-requires
-    cast-amount
+    (λ c. search needs)
     fixed-sum-requires
     add-less
     less-requires
-    same-length
+    (λ c. search needs)
     returns)

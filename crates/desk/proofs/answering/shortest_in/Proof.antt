@@ -20,17 +20,11 @@ shortest-of-requires c κs =
           (room-told _ _ (s .pre .1 .0) (s .pre .0) (s .args .amount) (now (s .args .cells)) (s .pre .1 .1 .1)),
     )
 
-same-length : tie.Need-same-length
-same-length c = search needs
-
 returns : tie.Need-returns
 returns c =
     let s = c .before .before .before .before .before .before .before .before .before .before in
     shortest-answers _ _ (s .pre .1 .0) (s .pre .0) _ (s .pre .1 .1 .0) _ _ (room-told _ _ (s .pre .1 .0) (s .pre .0) (s .args .amount) (now (s .args .cells)) (s .pre .1 .1 .1)) (c .before .before .before .before .before .before .fill-by-amount .ensures)
     _ _ (c .before .shortest-of .ensures) (gives-none _ (c .if1 .taken))
-
-same-length-2 : tie.Need-same-length-2
-same-length-2 c = search needs
 
 returns-2 : tie.Need-returns-2
 returns-2 c =
@@ -44,7 +38,7 @@ shortest-in-spec =
     (tie.spec
     fill-by-amount-requires
     shortest-of-requires
-    same-length
+    (λ c. search needs)
     returns
-    same-length-2
+    (λ c. search needs)
     returns-2)

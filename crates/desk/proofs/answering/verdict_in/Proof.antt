@@ -23,12 +23,6 @@ sweep-requires c κs =
       ),
     )
 
-as-answer-requires : tie.Need-as-answer-requires
-as-answer-requires c κs = search needs
-
-same-length : tie.Need-same-length
-same-length c = search needs
-
 returns : tie.Need-returns
 returns c =
     let s = c .before .before .before .before .before .before .before .before .before in
@@ -41,6 +35,6 @@ verdict-in-spec =
     (tie.spec
     fill-requires
     sweep-requires
-    as-answer-requires
-    same-length
+    (λ c κs. search needs)
+    (λ c. search needs)
     returns)

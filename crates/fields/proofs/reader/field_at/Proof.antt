@@ -19,18 +19,12 @@ room-for-content : (c : tie.Else3) →
     a .at + 3 + c .before .before .word-at .result ≤ length (now (a .bytes))
 room-for-content c = told-le _ _ _ (c .before .too-short2 .ensures) (c .if3 .left)
 
-too-short-requires : tie.Need-too-short-requires
-too-short-requires c κs = search needs
-
 returns : tie.Need-returns
 unfolding fieldAt
 returns c = search judging
 
 shared-slice-read-tag : tie.Need-shared-slice-read-tag
 shared-slice-read-tag c = omega (arith, room (c .before))
-
-refused-tag-requires : tie.Need-refused-tag-requires
-refused-tag-requires c κs = search needs
 
 returns-2 : tie.Need-returns-2
 unfolding fieldAt
@@ -39,24 +33,12 @@ returns-2 c = search judging
 add-word-at : tie.Need-add-word-at
 add-word-at c = omega (arith, room (c .before .before .before))
 
-word-at-requires : tie.Need-word-at-requires
-word-at-requires c κs = search needs
-
-cast-size : tie.Need-cast-size
-cast-size c = search needs
-
 add-start : tie.Need-add-start
 add-start c = omega (arith, room (c .before .before .before .before))
-
-too-short-requires-2 : tie.Need-too-short-requires-2
-too-short-requires-2 c κs = search needs
 
 returns-3 : tie.Need-returns-3
 unfolding fieldAt
 returns-3 c = rw (← c .before .before .word-at .ensures) (search judging)
-
-kind-of-requires : tie.Need-kind-of-requires
-kind-of-requires c κs = search needs
 
 add-t13 : tie.Need-add-t13
 add-t13 c = omega (arith, room-for-content (c .before))
@@ -74,17 +56,17 @@ pub field-at-spec : {M : Type 1} → statement M
 field-at-spec =
     tie.close
     (tie.spec
-    too-short-requires
+    (λ c κs. search needs)
     returns
     shared-slice-read-tag
-    refused-tag-requires
+    (λ c κs. search needs)
     returns-2
     add-word-at
-    word-at-requires
-    cast-size
+    (λ c κs. search needs)
+    (λ c. search needs)
     add-start
-    too-short-requires-2
+    (λ c κs. search needs)
     returns-3
-    kind-of-requires
+    (λ c κs. search needs)
     add-t13
     returns-4)

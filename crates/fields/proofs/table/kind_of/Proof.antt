@@ -4,9 +4,6 @@ use Rattle.fields.proofs.table.kind_of.Statement.{statement}
 use Rattle.fields.specs.Deciding.{pick}
 use Rattle.fields.proofs.table.kind_of.Tie as tie
 
-returns : tie.Need-returns
-returns c = search judging
-
 returns-2 : tie.Need-returns-2
 unfolding pick
 returns-2 c = rw (c .match .keys2)
@@ -23,17 +20,19 @@ returns-5 : tie.Need-returns-5
 unfolding pick
 returns-5 c = rw (c .match .keys5)
 
-returns-6 : tie.Need-returns-6
-returns-6 c = search judging depth 9
-
 returns-7 : tie.Need-returns-7
 unfolding pick
 returns-7 c = rw (c .match .keys6)
 
-returns-8 : tie.Need-returns-8
-returns-8 c = search judging depth 9
-
 pub kind-of-spec : {M : Type 1} → statement M
 kind-of-spec =
     tie.close
-    (tie.spec returns returns-2 returns-3 returns-4 returns-5 returns-6 returns-7 returns-8)
+    (tie.spec
+    (λ c. search judging)
+    returns-2
+    returns-3
+    returns-4
+    returns-5
+    (λ c. search judging depth 9)
+    returns-7
+    (λ c. search judging depth 9))

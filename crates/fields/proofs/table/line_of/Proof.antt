@@ -9,28 +9,13 @@ use mathlib.Core.Path.{_≡_, _∙_, sym, ap}
 use native.Mathlib.Omega.{arith}
 use Rattle.fields.proofs.table.line_of.Tie as tie
 
-no-line-requires : tie.Need-no-line-requires
-no-line-requires c κs = search needs
-
 returns : tie.Need-returns
 unfolding lineOf fields
 returns c = c .no-line .ensures ∙ sym (ap lineOf (c .before .if1 .taken))
 
-no-line-requires-2 : tie.Need-no-line-requires-2
-no-line-requires-2 c κs = search needs
-
 returns-2 : tie.Need-returns-2
 unfolding lineOf fields
 returns-2 c = c .no-line2 .ensures ∙ sym (List·getD-eq-default (noLine ∷ fields) noLine (c .before .if2 .taken))
-
-sub-result : tie.Need-sub-result
-sub-result c = search needs
-
-mul-result : tie.Need-mul-result
-mul-result c = search needs
-
-array-copy-out-result : tie.Need-array-copy-out-result
-array-copy-out-result c = search needs
 
 returns-3 : tie.Need-returns-3
 unfolding lineOf fields
@@ -43,11 +28,11 @@ pub line-of-spec : {M : Type 1} → statement M
 line-of-spec =
     tie.close
     (tie.spec
-    no-line-requires
+    (λ c κs. search needs)
     returns
-    no-line-requires-2
+    (λ c κs. search needs)
     returns-2
-    sub-result
-    mul-result
-    array-copy-out-result
+    (λ c. search needs)
+    (λ c. search needs)
+    (λ c. search needs)
     returns-3)

@@ -6,19 +6,16 @@ use lib.Dec.{ltb}
 use mathlib.Core.Path.{ap}
 use Rattle.overruns.proofs.sweep.over_at.Tie as tie
 
-demand-of-requires : tie.Need-demand-of-requires
-demand-of-requires c κs = search needs
-
-cast-result : tie.Need-cast-result
-cast-result c = search needs
-
-add-result : tie.Need-add-result
-add-result c = search needs
-
 returns : tie.Need-returns
 returns c =
     let a = c .before .before .args in
     ap (λ (d : ℕ). ltb (a .t) (d + a .fixed)) (c .demand-of .ensures)
 
 pub over-at-spec : {M : Type 1} → statement M
-over-at-spec = tie.close (tie.spec demand-of-requires cast-result add-result returns)
+over-at-spec =
+    tie.close
+    (tie.spec
+    (λ c κs. search needs)
+    (λ c. search needs)
+    (λ c. search needs)
+    returns)

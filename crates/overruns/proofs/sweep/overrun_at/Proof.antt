@@ -7,18 +7,6 @@ use denote.Ref.{now}
 use mathlib.Core.Path.{sym, ap, _∙_}
 use Rattle.overruns.proofs.sweep.overrun_at.Tie as tie
 
-enum-told : tie.Need-enum-told
-enum-told c = search needs
-
-over-at-requires : tie.Need-over-at-requires
-over-at-requires c κs = search needs
-
-enum-told-2 : tie.Need-enum-told-2
-enum-told-2 c = search needs
-
-reached-at-requires : tie.Need-reached-at-requires
-reached-at-requires c κs = search needs
-
 returns : tie.Need-returns
 returns c =
     let a = c .before .before .before .before .args in
@@ -32,4 +20,10 @@ returns-2 c =
 pub overrun-at-spec : {M : Type 1} → statement M
 overrun-at-spec =
     tie.close
-    (tie.spec enum-told over-at-requires enum-told-2 reached-at-requires returns returns-2)
+    (tie.spec
+    (λ c. search needs)
+    (λ c κs. search needs)
+    (λ c. search needs)
+    (λ c κs. search needs)
+    returns
+    returns-2)

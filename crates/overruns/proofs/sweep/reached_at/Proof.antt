@@ -21,9 +21,6 @@ shortest-of-requires c κs =
     let fewer : s .args .n * (s .args .t - s .args .fixed + 1) ≤ s .args .n * (s .args .t + 1) = mul-le-mul (omega arith) (omega arith) in
     (omega arith, omega (arith, s .pre .0))
 
-cast-result : tie.Need-cast-result
-cast-result c = search needs
-
 returns-2 : tie.Need-returns-2
 returns-2 c =
     let a = c .before .before .before .args in
@@ -31,4 +28,10 @@ returns-2 c =
 
 pub reached-at-spec : {M : Type 1} → statement M
 reached-at-spec =
-    tie.close (tie.spec returns add-shortest-of shortest-of-requires cast-result returns-2)
+    tie.close
+    (tie.spec
+    returns
+    add-shortest-of
+    shortest-of-requires
+    (λ c. search needs)
+    returns-2)

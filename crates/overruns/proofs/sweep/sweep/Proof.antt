@@ -20,9 +20,6 @@ Inv-loop table cells horizon tally lengths periods dues₀ fixed₀ t₀ dues fi
 abbrev μ-loop : tie.MeasureT-loop
 μ-loop table cells horizon tally lengths periods dues₀ fixed₀ t₀ dues fixed t = horizon - t
 
-times-of-requires : tie.Need-times-of-requires Inv-loop μ-loop
-times-of-requires c κs = search needs
-
 -- the tasks of the sheet run from the start
 count : (s : tie.Start Inv-loop μ-loop) → length (tasksOf (s .args .sheet)) ≡ s .args .sheet .tally .tasks
 count s = tasks-count (s .pre .0 .0) (s .args .sheet) (s .pre .0 .1)
@@ -94,7 +91,7 @@ sweep-spec =
     (tie.spec
     Inv-loop
     μ-loop
-    times-of-requires
+    (λ c κs. search needs)
     loop-holds
     add-t
     advance-requires

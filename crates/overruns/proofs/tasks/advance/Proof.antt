@@ -36,9 +36,6 @@ mul-wide c = omega (arith, few (c .before .before))
 element-copy-out-wide : tie.Need-element-copy-out-wide Inv-loop μ-loop
 element-copy-out-wide c = few (c .before .before)
 
-wide-requires : tie.Need-wide-requires Inv-loop μ-loop
-wide-requires c κs = search needs
-
 add-work : tie.Need-add-work Inv-loop μ-loop
 add-work c = omega (arith, few (c .before .before .before .before), c .wide .ensures, c .before .before .before .before .before .loop .inv .1)
 
@@ -48,9 +45,6 @@ mul-wide-2 c = omega (arith, few (c .before .before .before .before))
 element-copy-out-wide-2 : tie.Need-element-copy-out-wide-2 Inv-loop μ-loop
 element-copy-out-wide-2 c = few (c .before .before .before .before)
 
-wide-requires-2 : tie.Need-wide-requires-2 Inv-loop μ-loop
-wide-requires-2 c κs = search needs
-
 add-dues : tie.Need-add-dues Inv-loop μ-loop
 add-dues c = omega (arith, c .wide2 .ensures)
 
@@ -59,12 +53,6 @@ mul-dues c = omega (arith, few (c .before .before .before .before .before .befor
 
 element-write-dues : tie.Need-element-write-dues Inv-loop μ-loop
 element-write-dues c = few (c .before .before .before .before .before .before)
-
-add-i : tie.Need-add-i Inv-loop μ-loop
-add-i c = search needs
-
-loop-less : tie.Need-loop-less Inv-loop μ-loop
-loop-less c = search needs
 
 loop-again : tie.Need-loop-again Inv-loop μ-loop
 loop-again c =
@@ -97,15 +85,15 @@ advance-spec =
     element-copy-out-if1
     mul-wide
     element-copy-out-wide
-    wide-requires
+    (λ c κs. search needs)
     add-work
     mul-wide-2
     element-copy-out-wide-2
-    wide-requires-2
+    (λ c κs. search needs)
     add-dues
     mul-dues
     element-write-dues
-    add-i
-    loop-less
+    (λ c. search needs)
+    (λ c. search needs)
     loop-again
     returns)

@@ -10,17 +10,8 @@ use native.Mathlib.Nat.{div-le-self, mul-le-mul}
 use native.Mathlib.Omega.{arith}
 use Rattle.overruns.proofs.tasks.fixed_of.Tie as tie
 
-cast-first : tie.Need-cast-first
-cast-first c = search needs
-
 returns : tie.Need-returns
 returns c = (sym (fixed-before (timesOf (c .before .before .args .task)) (c .before .before .args .t) (c .if1 .taken)), omega arith)
-
-cast-jobs : tie.Need-cast-jobs
-cast-jobs c = search needs
-
-div-jobs : tie.Need-div-jobs
-div-jobs c = search needs
 
 -- no more jobs than ticks, and one
 few : (period first t : ℕ) → t ≤ longestTime → 1 + (t - first) / period ≤ longestTime + 1
@@ -34,9 +25,6 @@ add-jobs : tie.Need-add-jobs
 add-jobs c =
     let s = c .before .before .before in
     omega (arith, few (s .args .task .period .0) (s .args .task .deadline .0) (s .args .t) (s .pre .1))
-
-cast-result : tie.Need-cast-result
-cast-result c = search needs
 
 product : (c : tie.After-struct-known3) →
     let a = c .before .before .before .before .args in
@@ -56,4 +44,12 @@ returns-2 c =
 pub fixed-of-spec : {M : Type 1} → statement M
 fixed-of-spec =
     tie.close
-    (tie.spec cast-first returns cast-jobs div-jobs add-jobs cast-result mul-result returns-2)
+    (tie.spec
+    (λ c. search needs)
+    returns
+    (λ c. search needs)
+    (λ c. search needs)
+    add-jobs
+    (λ c. search needs)
+    mul-result
+    returns-2)

@@ -43,9 +43,6 @@ add-sum c = omega (arith, few (c .before .before), c .fixed-of .ensures .1, c .b
 add-i : tie.Need-add-i Inv-loop μ-loop
 add-i c = omega (arith, few (c .before .before))
 
-loop-less : tie.Need-loop-less Inv-loop μ-loop
-loop-less c = search needs
-
 loop-again : tie.Need-loop-again Inv-loop μ-loop
 loop-again c =
     let s = c .before .before .before .before .before in
@@ -74,6 +71,6 @@ fixed-sum-spec =
     fixed-of-requires
     add-sum
     add-i
-    loop-less
+    (λ c. search needs)
     loop-again
     returns)

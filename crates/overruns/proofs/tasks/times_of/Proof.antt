@@ -23,39 +23,6 @@ abbrev μ-loop : tie.MeasureT-loop
 loop-holds : tie.Need-loop-holds Inv-loop μ-loop
 loop-holds c = (omega arith, stored-none _ _, stored-none _ _, stored-none _ _)
 
-mul-task : tie.Need-mul-task Inv-loop μ-loop
-mul-task c = omega arith
-
-element-copy-out-task : tie.Need-element-copy-out-task Inv-loop μ-loop
-element-copy-out-task c = omega arith
-
-mul-lengths : tie.Need-mul-lengths Inv-loop μ-loop
-mul-lengths c = omega arith
-
-array-write-lengths : tie.Need-array-write-lengths Inv-loop μ-loop
-array-write-lengths c = omega arith
-
-mul-periods : tie.Need-mul-periods Inv-loop μ-loop
-mul-periods c = omega arith
-
-array-write-periods : tie.Need-array-write-periods Inv-loop μ-loop
-array-write-periods c = omega arith
-
-cast-dues : tie.Need-cast-dues Inv-loop μ-loop
-cast-dues c = search needs
-
-mul-dues : tie.Need-mul-dues Inv-loop μ-loop
-mul-dues c = omega arith
-
-array-write-dues : tie.Need-array-write-dues Inv-loop μ-loop
-array-write-dues c = omega arith
-
-add-i : tie.Need-add-i Inv-loop μ-loop
-add-i c = omega arith
-
-loop-less : tie.Need-loop-less Inv-loop μ-loop
-loop-less c = omega arith
-
 loop-again : tie.Need-loop-again Inv-loop μ-loop
 loop-again c =
     let l = c .before .before .before .loop in
@@ -80,16 +47,16 @@ times-of-spec =
     Inv-loop
     μ-loop
     loop-holds
-    mul-task
-    element-copy-out-task
-    mul-lengths
-    array-write-lengths
-    mul-periods
-    array-write-periods
-    cast-dues
-    mul-dues
-    array-write-dues
-    add-i
-    loop-less
+    (λ c. omega arith)
+    (λ c. omega arith)
+    (λ c. omega arith)
+    (λ c. omega arith)
+    (λ c. omega arith)
+    (λ c. omega arith)
+    (λ c. search needs)
+    (λ c. omega arith)
+    (λ c. omega arith)
+    (λ c. omega arith)
+    (λ c. omega arith)
     loop-again
     returns)

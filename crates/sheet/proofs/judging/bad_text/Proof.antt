@@ -18,31 +18,16 @@ Inv-loop bytes start size at₀ end at = (at ≤ end) × (end ≤ length bytes) 
 abbrev μ-loop : tie.MeasureT-loop
 μ-loop bytes start size at₀ end at = end - at
 
-add-end : tie.Need-add-end Inv-loop μ-loop
-add-end c = omega arith
-
 loop-holds : tie.Need-loop-holds Inv-loop μ-loop
 unfolding badText
 loop-holds c =
     let a = c .before .args in
     (omega arith, omega arith, rw (add-sub-cancel-left (a .start) (a .size)) refl)
 
-shared-slice-read-bad-byte : tie.Need-shared-slice-read-bad-byte Inv-loop μ-loop
-shared-slice-read-bad-byte c = omega arith
-
-bad-byte-requires : tie.Need-bad-byte-requires Inv-loop μ-loop
-bad-byte-requires c κs = search needs
-
 returns : tie.Need-returns Inv-loop μ-loop
 returns c =
     let l = c .before .before .before .before .loop in
     sym (l .inv .2 ∙ any-hit _ _ _ (c .before .before .before .loop-test .taken) (told _ _ _ (c .before .bad-byte .ensures) (c .if1 .taken)))
-
-add-at : tie.Need-add-at Inv-loop μ-loop
-add-at c = omega arith
-
-loop-less : tie.Need-loop-less Inv-loop μ-loop
-loop-less c = omega arith
 
 loop-again : tie.Need-loop-again Inv-loop μ-loop
 loop-again c =
@@ -58,12 +43,12 @@ bad-text-spec =
     (tie.spec
     Inv-loop
     μ-loop
-    add-end
+    (λ c. omega arith)
     loop-holds
-    shared-slice-read-bad-byte
-    bad-byte-requires
+    (λ c. omega arith)
+    (λ c κs. search needs)
     returns
-    add-at
-    loop-less
+    (λ c. omega arith)
+    (λ c. omega arith)
     loop-again
     returns-2)

@@ -5,17 +5,17 @@ use Rattle.sheet.proofs.judging.field_number.Statement.{statement}
 use borrow.Author.Needs.{needs}
 use Rattle.sheet.proofs.judging.field_number.Tie as tie
 
-head-number-requires : tie.Need-head-number-requires
-head-number-requires c κs = search needs
-
 returns : tie.Need-returns
 returns c = stop _ _ _ (c .before .head-number .ensures) (c .if1 .taken)
-
-own-number-requires : tie.Need-own-number-requires
-own-number-requires c κs = search needs
 
 returns-2 : tie.Need-returns-2
 returns-2 c = pass _ _ _ (c .before .before .head-number .ensures) _ (head-numbered _ _ _ _ _) (c .before .if1 .left) (c .own-number .ensures)
 
 pub field-number-spec : {M : Type 1} → statement M
-field-number-spec = tie.close (tie.spec head-number-requires returns own-number-requires returns-2)
+field-number-spec =
+    tie.close
+    (tie.spec
+    (λ c κs. search needs)
+    returns
+    (λ c κs. search needs)
+    returns-2)

@@ -6,57 +6,6 @@ use borrow.Author.Needs.{needs}
 use mathlib.Core.Path.{refl}
 use Rattle.sheet.proofs.judging.head_number.Tie as tie
 
-enum-told : tie.Need-enum-told
-enum-told c = search needs
-
-enum-told-2 : tie.Need-enum-told-2
-enum-told-2 c = search needs
-
-wrong-length-requires : tie.Need-wrong-length-requires
-wrong-length-requires c κs = search needs
-
-common-number-requires : tie.Need-common-number-requires
-common-number-requires c κs = search needs
-
-enum-told-3 : tie.Need-enum-told-3
-enum-told-3 c = search needs
-
-wrong-length-requires-2 : tie.Need-wrong-length-requires-2
-wrong-length-requires-2 c κs = search needs
-
-common-number-requires-2 : tie.Need-common-number-requires-2
-common-number-requires-2 c κs = search needs
-
-enum-told-4 : tie.Need-enum-told-4
-enum-told-4 c = search needs
-
-wrong-row-requires : tie.Need-wrong-row-requires
-wrong-row-requires c κs = search needs
-
-common-number-requires-3 : tie.Need-common-number-requires-3
-common-number-requires-3 c κs = search needs
-
-enum-told-5 : tie.Need-enum-told-5
-enum-told-5 c = search needs
-
-wrong-length-requires-3 : tie.Need-wrong-length-requires-3
-wrong-length-requires-3 c κs = search needs
-
-common-number-requires-4 : tie.Need-common-number-requires-4
-common-number-requires-4 c κs = search needs
-
-enum-told-6 : tie.Need-enum-told-6
-enum-told-6 c = search needs
-
-wrong-length-requires-4 : tie.Need-wrong-length-requires-4
-wrong-length-requires-4 c κs = search needs
-
-common-number-requires-5 : tie.Need-common-number-requires-5
-common-number-requires-5 c κs = search needs
-
-enum-told-7 : tie.Need-enum-told-7
-enum-told-7 c = search needs
-
 returns : tie.Need-returns
 unfolding headRules firstBroken pick
 returns c = rw (c .enum-told .given .1) refl
@@ -89,23 +38,23 @@ pub head-number-spec : {M : Type 1} → statement M
 head-number-spec =
     tie.close
     (tie.spec
-    enum-told
-    enum-told-2
-    wrong-length-requires
-    common-number-requires
-    enum-told-3
-    wrong-length-requires-2
-    common-number-requires-2
-    enum-told-4
-    wrong-row-requires
-    common-number-requires-3
-    enum-told-5
-    wrong-length-requires-3
-    common-number-requires-4
-    enum-told-6
-    wrong-length-requires-4
-    common-number-requires-5
-    enum-told-7
+    (λ c. search needs)
+    (λ c. search needs)
+    (λ c κs. search needs)
+    (λ c κs. search needs)
+    (λ c. search needs)
+    (λ c κs. search needs)
+    (λ c κs. search needs)
+    (λ c. search needs)
+    (λ c κs. search needs)
+    (λ c κs. search needs)
+    (λ c. search needs)
+    (λ c κs. search needs)
+    (λ c κs. search needs)
+    (λ c. search needs)
+    (λ c κs. search needs)
+    (λ c κs. search needs)
+    (λ c. search needs)
     returns
     returns-2
     returns-3

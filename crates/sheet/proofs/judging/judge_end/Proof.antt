@@ -5,18 +5,9 @@ use Rattle.sheet.specs.Judging.{endJudged}
 use borrow.Author.Needs.{needs}
 use Rattle.sheet.proofs.judging.judge_end.Tie as tie
 
-unknown-follower-requires : tie.Need-unknown-follower-requires
-unknown-follower-requires c κs = search needs
-
-refused-requires : tie.Need-refused-requires
-refused-requires c κs = search needs
-
 returns : tie.Need-returns
 unfolding endJudged
 returns c = search judging depth 9
-
-refused-requires-2 : tie.Need-refused-requires-2
-refused-requires-2 c κs = search needs
 
 returns-2 : tie.Need-returns-2
 unfolding endJudged
@@ -30,9 +21,9 @@ pub judge-end-spec : {M : Type 1} → statement M
 judge-end-spec =
     tie.close
     (tie.spec
-    unknown-follower-requires
-    refused-requires
+    (λ c κs. search needs)
+    (λ c κs. search needs)
     returns
-    refused-requires-2
+    (λ c κs. search needs)
     returns-2
     returns-3)

@@ -24,28 +24,10 @@ row : (c : tie.After-enum-told4) →
     (headSize ≤ a .size) × (a .size ≡ headSize + gapSize * followerCount (longAt (now (a .bytes)) (a .start + 4))) × (a .tally .rows < rowLimit)
 row c = row-fits _ _ _ _ _ (c .enum-told4 .given .1) (kept (c .before .before .before))
 
-enum-told : tie.Need-enum-told
-enum-told c = search needs
-
-enum-told-2 : tie.Need-enum-told-2
-enum-told-2 c = search needs
-
-text-number-requires : tie.Need-text-number-requires
-text-number-requires c κs = search needs
-
-enum-told-3 : tie.Need-enum-told-3
-enum-told-3 c = search needs
-
 mode-at-requires : tie.Need-mode-at-requires
 mode-at-requires c κs =
     let s = c .before .before .before in
     omega (arith, mode-fits (now (s .args .bytes)) (s .args .tally) (s .args .start) (s .args .size) (s .args .kind) (c .enum-told3 .given .1) (kept s))
-
-mode-number-requires : tie.Need-mode-number-requires
-mode-number-requires c κs = search needs
-
-enum-told-4 : tie.Need-enum-told-4
-enum-told-4 c = search needs
 
 row-at-requires : tie.Need-row-at-requires
 row-at-requires c κs = omega (arith, row c)
@@ -53,22 +35,10 @@ row-at-requires c κs = omega (arith, row c)
 row-gap-number-requires : tie.Need-row-gap-number-requires
 row-gap-number-requires c κs = rw (c .row-at .ensures) (omega (arith, row (c .before)))
 
-enum-told-5 : tie.Need-enum-told-5
-enum-told-5 c = search needs
-
 task-at-requires : tie.Need-task-at-requires
 task-at-requires c κs =
     let s = c .before .before .before in
     omega (arith, task-fits (now (s .args .bytes)) (s .args .tally) (s .args .start) (s .args .size) (s .args .kind) (c .enum-told5 .given .1) (kept s))
-
-task-number-requires : tie.Need-task-number-requires
-task-number-requires c κs = search needs
-
-enum-told-6 : tie.Need-enum-told-6
-enum-told-6 c = search needs
-
-enum-told-7 : tie.Need-enum-told-7
-enum-told-7 c = search needs
 
 returns : tie.Need-returns
 unfolding ownRules firstBroken
@@ -102,20 +72,20 @@ pub own-number-spec : {M : Type 1} → statement M
 own-number-spec =
     tie.close
     (tie.spec
-    enum-told
-    enum-told-2
-    text-number-requires
-    enum-told-3
+    (λ c. search needs)
+    (λ c. search needs)
+    (λ c κs. search needs)
+    (λ c. search needs)
     mode-at-requires
-    mode-number-requires
-    enum-told-4
+    (λ c κs. search needs)
+    (λ c. search needs)
     row-at-requires
     row-gap-number-requires
-    enum-told-5
+    (λ c. search needs)
     task-at-requires
-    task-number-requires
-    enum-told-6
-    enum-told-7
+    (λ c κs. search needs)
+    (λ c. search needs)
+    (λ c. search needs)
     returns
     returns-2
     returns-3

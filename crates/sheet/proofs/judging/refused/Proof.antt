@@ -5,12 +5,13 @@ use borrow.Author.Needs.{needs}
 use mathlib.Core.Path.{refl}
 use Rattle.sheet.proofs.judging.refused.Tie as tie
 
-empty-requires : tie.Need-empty-requires
-empty-requires c κs = search needs
-
 returns : tie.Need-returns
 unfolding refusal
 returns c = rw (c .empty .ensures) refl
 
 pub refused-spec : {M : Type 1} → statement M
-refused-spec = tie.close (tie.spec empty-requires returns)
+refused-spec =
+    tie.close
+    (tie.spec
+    (λ c κs. search needs)
+    returns)

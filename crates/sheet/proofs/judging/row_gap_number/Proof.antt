@@ -4,18 +4,6 @@ use Rattle.sheet.specs.Content.{rowGapRules}
 use borrow.Author.Needs.{needs}
 use Rattle.sheet.proofs.judging.row_gap_number.Tie as tie
 
-size-requires : tie.Need-size-requires
-size-requires c κs = search needs
-
-gap-shorter-requires : tie.Need-gap-shorter-requires
-gap-shorter-requires c κs = search needs
-
-gap-shorter-requires-2 : tie.Need-gap-shorter-requires-2
-gap-shorter-requires-2 c κs = search needs
-
-row-number-requires : tie.Need-row-number-requires
-row-number-requires c κs = search needs
-
 returns : tie.Need-returns
 unfolding rowGapRules
 returns c = rw (← c .before .before .before .size .ensures .0, ← c .before .before .gap-shorter .ensures, ← c .before .gap-shorter2 .ensures) (c .row-number .ensures)
@@ -24,8 +12,8 @@ pub row-gap-number-spec : {M : Type 1} → statement M
 row-gap-number-spec =
     tie.close
     (tie.spec
-    size-requires
-    gap-shorter-requires
-    gap-shorter-requires-2
-    row-number-requires
+    (λ c κs. search needs)
+    (λ c κs. search needs)
+    (λ c κs. search needs)
+    (λ c κs. search needs)
     returns)

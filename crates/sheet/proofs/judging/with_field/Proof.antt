@@ -29,26 +29,11 @@ row c = row-fits _ _ _ _ _ (c .enum-told4 .given .1) (kept (c .before .before .b
 task : (c : tie.After-enum-told5) → let a = c .before .before .before .args in (6 ≤ a .size) × (a .sheet .tally .tasks < taskLimit)
 task c = task-fits _ _ _ _ _ (c .enum-told5 .given .1) (kept (c .before .before .before))
 
-enum-told : tie.Need-enum-told
-enum-told c = search needs
-
-enum-told-2 : tie.Need-enum-told-2
-enum-told-2 c = search needs
-
-with-label-requires : tie.Need-with-label-requires
-with-label-requires c κs = search needs
-
-enum-told-3 : tie.Need-enum-told-3
-enum-told-3 c = search needs
-
 mode-at-requires : tie.Need-mode-at-requires
 mode-at-requires c κs = omega (arith, mode c)
 
 with-mode-requires : tie.Need-with-mode-requires
 with-mode-requires c κs = mode (c .before) .1
-
-enum-told-4 : tie.Need-enum-told-4
-enum-told-4 c = search needs
 
 row-at-requires : tie.Need-row-at-requires
 row-at-requires c κs = omega (arith, row c)
@@ -56,20 +41,11 @@ row-at-requires c κs = omega (arith, row c)
 with-row-requires : tie.Need-with-row-requires
 with-row-requires c κs = row (c .before) .2
 
-enum-told-5 : tie.Need-enum-told-5
-enum-told-5 c = search needs
-
 task-at-requires : tie.Need-task-at-requires
 task-at-requires c κs = omega (arith, task c)
 
 with-task-requires : tie.Need-with-task-requires
 with-task-requires c κs = task (c .before) .1
-
-enum-told-6 : tie.Need-enum-told-6
-enum-told-6 c = search needs
-
-enum-told-7 : tie.Need-enum-told-7
-enum-told-7 c = search needs
 
 returns : tie.Need-returns
 unfolding withField
@@ -103,20 +79,20 @@ pub with-field-spec : {M : Type 1} → statement M
 with-field-spec =
     tie.close
     (tie.spec
-    enum-told
-    enum-told-2
-    with-label-requires
-    enum-told-3
+    (λ c. search needs)
+    (λ c. search needs)
+    (λ c κs. search needs)
+    (λ c. search needs)
     mode-at-requires
     with-mode-requires
-    enum-told-4
+    (λ c. search needs)
     row-at-requires
     with-row-requires
-    enum-told-5
+    (λ c. search needs)
     task-at-requires
     with-task-requires
-    enum-told-6
-    enum-told-7
+    (λ c. search needs)
+    (λ c. search needs)
     returns
     returns-2
     returns-3

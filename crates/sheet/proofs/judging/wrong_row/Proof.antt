@@ -6,21 +6,9 @@ use borrow.Author.Needs.{needs}
 use native.Mathlib.Omega.{arith}
 use Rattle.sheet.proofs.judging.wrong_row.Tie as tie
 
-wrong-length-requires : tie.Need-wrong-length-requires
-wrong-length-requires c κs = search needs
-
 returns : tie.Need-returns
 unfolding wrongRow
 returns c = search judging
-
-add-long-at : tie.Need-add-long-at
-add-long-at c = omega arith
-
-long-at-requires : tie.Need-long-at-requires
-long-at-requires c κs = search needs
-
-unlike-set-requires : tie.Need-unlike-set-requires
-unlike-set-requires c κs = search needs
 
 returns-2 : tie.Need-returns-2
 unfolding wrongRow
@@ -30,9 +18,9 @@ pub wrong-row-spec : {M : Type 1} → statement M
 wrong-row-spec =
     tie.close
     (tie.spec
-    wrong-length-requires
+    (λ c κs. search needs)
     returns
-    add-long-at
-    long-at-requires
-    unlike-set-requires
+    (λ c. omega arith)
+    (λ c κs. search needs)
+    (λ c κs. search needs)
     returns-2)

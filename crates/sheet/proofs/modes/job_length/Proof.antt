@@ -51,24 +51,9 @@ returns c =
     let a = c .before .before .before .args in
     sym (c .before .before .loop .inv .1 ∙ none-left (a .t1) (a .count) (c .before .before .loop .number) (a .speed) (omega arith))
 
-mul-mode : tie.Need-mul-mode Inv-loop μ-loop
-mul-mode c = omega arith
-
-array-copy-out-mode : tie.Need-array-copy-out-mode Inv-loop μ-loop
-array-copy-out-mode c = omega arith
-
-at-most-requires : tie.Need-at-most-requires Inv-loop μ-loop
-at-most-requires c κs = search needs
-
 returns-2 : tie.Need-returns-2 Inv-loop μ-loop
 unfolding pick
 returns-2 c = sym (turn (c .before .before .before .before) ∙ rw (sym (c .before .before .at-most .ensures) ∙ c .before .if2 .taken))
-
-add-number : tie.Need-add-number Inv-loop μ-loop
-add-number c = omega arith
-
-loop-less : tie.Need-loop-less Inv-loop μ-loop
-loop-less c = omega arith
 
 loop-again : tie.Need-loop-again Inv-loop μ-loop
 unfolding pick
@@ -87,11 +72,11 @@ job-length-spec =
     μ-loop
     loop-holds
     returns
-    mul-mode
-    array-copy-out-mode
-    at-most-requires
+    (λ c. omega arith)
+    (λ c. omega arith)
+    (λ c κs. search needs)
     returns-2
-    add-number
-    loop-less
+    (λ c. omega arith)
+    (λ c. omega arith)
     loop-again
     returns-3)

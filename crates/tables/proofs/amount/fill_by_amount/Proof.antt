@@ -18,12 +18,6 @@ Inv-loop bytes cells₀ amounts sheet lengths n end at₀ line₀ k₀ cells at 
 abbrev μ-loop : tie.MeasureT-loop
 μ-loop bytes cells₀ amounts sheet lengths n end at₀ line₀ k₀ cells at line k = end - at
 
-job-lengths-requires : tie.Need-job-lengths-requires Inv-loop μ-loop
-job-lengths-requires c κs = search needs
-
-mul-end : tie.Need-mul-end Inv-loop μ-loop
-mul-end c = search needs
-
 loop-holds : tie.Need-loop-holds Inv-loop μ-loop
 loop-holds c = upto-start _ _ _ _ (c .before .before .before .before .pre .0 .proper .rows-some)
 
@@ -93,26 +87,17 @@ add-line c =
     let s = i .before .before .before .before .before .before in
     omega (arith, upto-line _ _ _ _ _ _ _ _ (l .inv) (i .loop-test .taken) (s .pre .1))
 
-loop-less : tie.Need-loop-less Inv-loop μ-loop
-loop-less c = search needs
-
 loop-again : tie.Need-loop-again Inv-loop μ-loop
 loop-again c =
     let i = c .before .before .before .before in
     let s = i .before .before .before .before .before .before in
     upto-turn _ _ _ _ _ _ _ _ (i .before .loop .inv) (i .loop-test .taken) (s .pre .1) _ (right (c .before)) (c .if1 .taken)
 
-loop-less-2 : tie.Need-loop-less-2 Inv-loop μ-loop
-loop-less-2 c = search needs
-
 loop-again-2 : tie.Need-loop-again-2 Inv-loop μ-loop
 loop-again-2 c =
     let i = c .before .before .before .before in
     let s = i .before .before .before .before .before .before in
     upto-next _ _ _ _ _ _ _ _ (i .before .loop .inv) (i .loop-test .taken) (s .pre .1) _ (right (c .before)) (c .if1 .left)
-
-same-length : tie.Need-same-length Inv-loop μ-loop
-same-length c = search needs
 
 returns : tie.Need-returns Inv-loop μ-loop
 returns c = upto-done _ _ _ _ _ _ _ _ (c .before .loop .inv) (c .loop-test .left)
@@ -123,8 +108,8 @@ fill-by-amount-spec =
     (tie.spec
     Inv-loop
     μ-loop
-    job-lengths-requires
-    mul-end
+    (λ c κs. search needs)
+    (λ c. search needs)
     loop-holds
     mul-row
     element-copy-out-row
@@ -136,9 +121,9 @@ fill-by-amount-spec =
     add-at
     add-k
     add-line
-    loop-less
+    (λ c. search needs)
     loop-again
-    loop-less-2
+    (λ c. search needs)
     loop-again-2
-    same-length
+    (λ c. search needs)
     returns)

@@ -13,9 +13,6 @@ use native.Mathlib.Nat.{mul-le-mul}
 use native.Mathlib.Omega.{arith}
 use Rattle.tables.proofs.amount.least_cell.Tie as tie
 
-cast-result : tie.Need-cast-result
-cast-result c = search needs
-
 returns : tie.Need-returns
 returns c =
     let s = c .before .before .before .before in
@@ -39,4 +36,10 @@ returns-2 c =
     (rw (c .soonest-via .ensures, same) (soonest-via-is bytes (a .n) (a .row) (s .pre .0) (omega arith) cells left))
 
 pub least-cell-spec : {M : Type 1} → statement M
-least-cell-spec = tie.close (tie.spec cast-result returns soonest-via-requires returns-2)
+least-cell-spec =
+    tie.close
+    (tie.spec
+    (λ c. search needs)
+    returns
+    soonest-via-requires
+    returns-2)

@@ -18,17 +18,11 @@ Inv-loop cells n amount line least₀ k₀ least k = (k ≤ n) × (least ≡ min
 abbrev μ-loop : tie.MeasureT-loop
 μ-loop cells n amount line least₀ k₀ least k = n - k
 
-sub-line : tie.Need-sub-line Inv-loop μ-loop
-sub-line c = search needs
-
 mul-line : tie.Need-mul-line Inv-loop μ-loop
 mul-line c =
     let a = c .before .args in
     let same : a .amount - 1 + 1 ≡ a .amount = omega arith in
     omega (arith, ap (λ (x : ℕ). a .n * x) same)
-
-loop-holds : tie.Need-loop-holds Inv-loop μ-loop
-loop-holds c = search needs
 
 -- the cell of the turn stands in the area
 place : (c : tie.In-loop Inv-loop μ-loop) →
@@ -46,15 +40,6 @@ mul-smaller c = omega (arith, place c)
 
 shared-slice-read-smaller : tie.Need-shared-slice-read-smaller Inv-loop μ-loop
 shared-slice-read-smaller c = place (c .before)
-
-smaller-requires : tie.Need-smaller-requires Inv-loop μ-loop
-smaller-requires c κs = search needs
-
-add-k : tie.Need-add-k Inv-loop μ-loop
-add-k c = search needs
-
-loop-less : tie.Need-loop-less Inv-loop μ-loop
-loop-less c = search needs
 
 loop-again : tie.Need-loop-again Inv-loop μ-loop
 loop-again c =
@@ -74,14 +59,14 @@ shortest-of-spec =
     (tie.spec
     Inv-loop
     μ-loop
-    sub-line
+    (λ c. search needs)
     mul-line
-    loop-holds
+    (λ c. search needs)
     add-smaller
     mul-smaller
     shared-slice-read-smaller
-    smaller-requires
-    add-k
-    loop-less
+    (λ c κs. search needs)
+    (λ c. search needs)
+    (λ c. search needs)
     loop-again
     returns)

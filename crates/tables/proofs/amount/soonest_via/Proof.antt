@@ -58,15 +58,6 @@ mul-time-via c = omega (arith, place (c .before))
 shared-slice-read-time-via : tie.Need-shared-slice-read-time-via Inv-loop μ-loop
 shared-slice-read-time-via c = place (c .before .before)
 
-time-via-requires : tie.Need-time-via-requires Inv-loop μ-loop
-time-via-requires c κs = search needs
-
-smaller-requires : tie.Need-smaller-requires Inv-loop μ-loop
-smaller-requires c κs = search needs
-
-sub-rest : tie.Need-sub-rest Inv-loop μ-loop
-sub-rest c = search needs
-
 add-place : tie.Need-add-place Inv-loop μ-loop
 add-place c = omega (arith, room (c .before .before .before .before))
 
@@ -106,9 +97,9 @@ soonest-via-spec =
     add-time-via
     mul-time-via
     shared-slice-read-time-via
-    time-via-requires
-    smaller-requires
-    sub-rest
+    (λ c κs. search needs)
+    (λ c κs. search needs)
+    (λ c. search needs)
     add-place
     loop-less
     loop-again

@@ -7,23 +7,19 @@ use mathlib.Core.Path.{sym}
 use native.Mathlib.Omega.{arith}
 use Rattle.tables.proofs.amount.time_via.Tie as tie
 
-cast-first : tie.Need-cast-first
-cast-first c = search needs
-
-cast-if1 : tie.Need-cast-if1
-cast-if1 c = search needs
-
-sub-if1 : tie.Need-sub-if1
-sub-if1 c = search needs
-
 returns : tie.Need-returns
 returns c = sym (time-none (c .before .before .args .gap .0 + c .before .before .args .after) (omega arith))
-
-add-result : tie.Need-add-result
-add-result c = search needs
 
 returns-2 : tie.Need-returns-2
 returns-2 c = sym (time-kept (c .before .before .args .gap .0 + c .before .before .args .after) (omega arith))
 
 pub time-via-spec : {M : Type 1} → statement M
-time-via-spec = tie.close (tie.spec cast-first cast-if1 sub-if1 returns add-result returns-2)
+time-via-spec =
+    tie.close
+    (tie.spec
+    (λ c. search needs)
+    (λ c. search needs)
+    (λ c. search needs)
+    returns
+    (λ c. search needs)
+    returns-2)

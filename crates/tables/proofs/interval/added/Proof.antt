@@ -17,9 +17,6 @@ within c =
     let b = c .before .before in
     in-lines (b .args .n) (b .args .s - b .args .gap .0) (b .args .s + 1) (b .args .row) (length (now (b .args .cells))) (omega arith) (b .pre .0) (b .pre .1)
 
-cast-back : tie.Need-cast-back
-cast-back c = search needs
-
 returns : tie.Need-returns
 returns c = added-late _ _ _ _ _ (c .if1 .taken)
 
@@ -39,4 +36,13 @@ returns-2 : tie.Need-returns-2
 returns-2 c = added-cell _ _ _ _ _ (c .before .if1 .left)
 
 pub added-spec : {M : Type 1} → statement M
-added-spec = tie.close (tie.spec cast-back returns mul-result add-result mul-result-2 shared-slice-read-result returns-2)
+added-spec =
+    tie.close
+    (tie.spec
+    (λ c. search needs)
+    returns
+    mul-result
+    add-result
+    mul-result-2
+    shared-slice-read-result
+    returns-2)

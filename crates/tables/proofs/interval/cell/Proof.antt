@@ -11,9 +11,6 @@ use Rattle.tables.proofs.Followers.{row-followed}
 use Rattle.tables.proofs.interval.cell.Statement.{statement}
 use Rattle.tables.proofs.interval.cell.Tie as tie
 
-cast-if1 : tie.Need-cast-if1
-cast-if1 c = search needs
-
 returns : tie.Need-returns
 returns c = step-late _ _ _ _ _ _ (c .if1 .taken)
 
@@ -35,4 +32,11 @@ returns-2 : tie.Need-returns-2
 returns-2 c = sum c
 
 pub cell-spec : {M : Type 1} → statement M
-cell-spec = tie.close (tie.spec cast-if1 returns most-added-requires add-result returns-2)
+cell-spec =
+    tie.close
+    (tie.spec
+    (λ c. search needs)
+    returns
+    most-added-requires
+    add-result
+    returns-2)

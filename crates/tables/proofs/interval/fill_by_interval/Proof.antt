@@ -41,9 +41,6 @@ right c =
     rw (c .cell .ensures)
     (next-is _ _ (b .pre .0) _ _ _ _ (l .loop .inv .row) (upto-filled _ _ _ _ _ _ _ _ (l .loop .inv)) _ (l .before .before .job-lengths .ensures (l .loop .k) (row-few l)))
 
-job-lengths-requires : tie.Need-job-lengths-requires Inv-loop μ-loop
-job-lengths-requires c κs = search needs
-
 add-end : tie.Need-add-end Inv-loop μ-loop
 add-end c = omega (arith, c .before .before .before .before .pre .1 .0)
 
@@ -120,7 +117,7 @@ fill-by-interval-spec =
     (tie.spec
     Inv-loop
     μ-loop
-    job-lengths-requires
+    (λ c κs. search needs)
     add-end
     mul-end
     loop-holds

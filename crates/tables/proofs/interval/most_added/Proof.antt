@@ -44,9 +44,6 @@ gap-at-requires c κs = gap-in c
 added-requires : tie.Need-added-requires Inv-loop μ-loop
 added-requires c κs = (row-in (c .before), c .before .before .before .before .before .pre .1)
 
-larger-requires : tie.Need-larger-requires Inv-loop μ-loop
-larger-requires c κs = search needs
-
 sub-rest : tie.Need-sub-rest Inv-loop μ-loop
 sub-rest c = omega (arith, c .before .before .before .loop-test .taken)
 
@@ -85,7 +82,7 @@ most-added-spec =
     cast-row
     gap-at-requires
     added-requires
-    larger-requires
+    (λ c κs. search needs)
     sub-rest
     add-place
     loop-less
