@@ -1,4 +1,4 @@
-# What ./desk, examples/c/run and bench/run share: messages, whether a built file is older than its sources, and how code for x86-64 is compiled and started here.
+# What ./desk, tests/run, examples/c/run and bench/run share: messages, whether a built file is older than its sources, and how code for x86-64 is compiled and started here.
 # The script that reads this file has set `home`, the repository's folder, and `name`, its own name in messages.
 
 say() {

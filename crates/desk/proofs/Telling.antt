@@ -23,7 +23,7 @@ use Rattle.sheet.specs.Meaning.{graphOf, tasksOf}
 use Rattle.fields.specs.declared.values.Sheet.{Sheet}
 use Rattle.sheet.specs.Ready.{Ready}
 use Rattle.tables.specs.Lines.{HasLines}
-use Rattle.tables.specs.Either.{tableOf}
+use Rattle.tables.specs.WhichTable.{tableOf}
 use Rattle.tables.specs.declared.Table.{Table}
 use Rattle.overruns.specs.Sweeping.{IsSwept, verdictOf}
 use Rattle.overruns.specs.declared.sweep.Swept.{Swept}
@@ -31,7 +31,7 @@ use Rattle.tables.proofs.Lines.{filled-lines, line-demand}
 use Rattle.tables.proofs.Amounts.{line-shortest}
 use Rattle.beginning.specs.Beginning.{graph, tasks, rows, lines}
 use Rattle.desk.specs.Calls.{DemandAnswers, MarginAnswers, ShortestGives, ShortestAnswers, VerdictAnswers, verdictAnswer}
-use Rattle.desk.specs.EitherTable.{filledBy}
+use Rattle.desk.specs.WhichTable.{filledBy}
 use Rattle.desk.specs.declared.DemandAnswer.the-variants as demand-case
 use Rattle.desk.specs.declared.MarginAnswer.the-variants as margin-case
 use Rattle.desk.specs.declared.ShortestAnswer as shortest

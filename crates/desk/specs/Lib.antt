@@ -1,3 +1,3 @@
 pub mod Answers
 pub mod Calls
-pub mod EitherTable
+pub mod WhichTable

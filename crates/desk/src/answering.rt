@@ -26,7 +26,7 @@ ghost use Rattle.sheet.specs.Ready.{Ready};
 ghost use Rattle.overruns.specs.Sweeping.{verdictOf};
 ghost use Rattle.beginning.specs.Beginning.{lines};
 ghost use Rattle.desk.specs.Calls.{DemandAnswers, MarginAnswers, ShortestAnswers, VerdictAnswers, verdictAnswer};
-ghost use Rattle.desk.specs.EitherTable.{filledBy};
+ghost use Rattle.desk.specs.WhichTable.{filledBy};
 
 // The table by interval, then the largest cell of its last line and the witness, which is counted before it is written.
 pub(crate) fn demand_in(

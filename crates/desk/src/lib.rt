@@ -10,7 +10,7 @@ use beginning::begin_interval;
 use sheet::Answer;
 use tables::Table;
 ghost use Rattle.desk.specs.Calls.{DemandCall, MarginCall, ShortestCall, VerdictCall, VerdictByIntervalCall, VerdictByAmountCall};
-ghost use Rattle.desk.specs.EitherTable.{filledBy};
+ghost use Rattle.desk.specs.WhichTable.{filledBy};
 
 // The demand at an interval, and how many rows its witness has.
 pub enum DemandAnswer {

@@ -23,7 +23,7 @@ use Rattle.sheet.specs.Meaning.{graphOf, tasksOf}
 use Rattle.fields.specs.declared.values.Sheet.{Sheet}
 use Rattle.tables.specs.Lines.{HasLines}
 use Rattle.sheet.specs.Ready.{Ready}
-use Rattle.tables.specs.Either.{tableOf}
+use Rattle.tables.specs.WhichTable.{tableOf}
 use Rattle.overruns.specs.Releases.{Advanced}
 use Rattle.overruns.specs.Sweeping.{overAt, reachedAt, overrunAt}
 use Rattle.tables.specs.declared.Table.{Table}

@@ -9,7 +9,7 @@ ghost use mathlib.Core.Path.{_≡_};
 ghost use Prim.Native.Nat.{_+_, _*_, _^_, _≤_, _<_};
 ghost use lib.ListN.{length};
 ghost use Rattle.meaning.specs.Demand.{longestTime};
-ghost use Rattle.tables.specs.Either.{tableOf};
+ghost use Rattle.tables.specs.WhichTable.{tableOf};
 ghost use Rattle.overruns.specs.Releases.{IsProper};
 ghost use Rattle.overruns.specs.Sweeping.{IsSwept, overAt, reachedAt, overrunAt};
 

@@ -3,4 +3,4 @@ pub mod Followers
 pub mod Adding
 pub mod Lines
 pub mod Amounts
-pub mod Either
+pub mod WhichTable

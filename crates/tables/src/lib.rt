@@ -11,7 +11,7 @@ ghost use Rattle.meaning.specs.Cells.{Filled};
 ghost use Rattle.meaning.specs.Demand.{longestTime};
 ghost use Rattle.sheet.specs.Meaning.{graphOf};
 ghost use Rattle.sheet.specs.Ready.{Ready};
-ghost use Rattle.tables.specs.Either.{tableOf};
+ghost use Rattle.tables.specs.WhichTable.{tableOf};
 
 // Which table cells hold.
 pub enum Table {

@@ -2,7 +2,7 @@
 use Prim.Native.Nat.{ℕ}
 use mathlib.Core.List.{List}
 use Rattle.meaning.specs.Cells.{Filled}
-use Rattle.tables.specs.Either.{tableOf}
+use Rattle.tables.specs.WhichTable.{tableOf}
 use Rattle.tables.specs.declared.Table.{Table}
 use Rattle.beginning.specs.Beginning.{graph, rows, lines}
 
