@@ -1,7 +1,8 @@
-/* How the plans of the family are made from numbers, whose digits say one after the other what a plan has. */
+/* How the plans of a family are made from numbers, whose digits say one after the other what a plan has. */
 #include "plans.h"
 
 #include <stdio.h>
+#include <string.h>
 
 /* Choices for each digit. Out of three rows a gap is there or not, and how long it is follows from the deadline. */
 enum { LENGTHS = 3, DEADLINES = 2, GAPS = 4, TASKS = MOST_TASKS + 1 };
@@ -9,20 +10,21 @@ enum { LENGTHS = 3, DEADLINES = 2, GAPS = 4, TASKS = MOST_TASKS + 1 };
 /* The deadline of the second task is longer than its period. */
 const fixed_task fixed_tasks[MOST_TASKS] = {{1, 5, 4}, {2, 3, 5}};
 
-/* Speeds of the rows, and the modes that they are in: a boundary speed belongs to the slower mode. */
-static const struct {
-    const char *name;
-    unsigned speeds[MOST_ROWS];
-    unsigned modes[MOST_ROWS];
-} placements[PLACEMENTS] = {
-    {"rows at boundary speeds, each in a mode of its own", {1000, 2000, 3000}, {0, 1, 2}},
-    {"rows one rpm above the boundary before them", {1, 1001, 2001}, {0, 1, 2}},
-    {"two rows in one mode, one of them at its boundary, a third just above it", {999, 1000, 1001}, {0, 0, 1}},
+/* A boundary speed belongs to the slower mode. */
+static const family families[] = {
+    {"at-boundaries", "at boundary speeds, each in a mode of its own", {1000, 2000, 3000}, {0, 1, 2}},
+    {"above-boundaries", "one rpm above the boundary of the mode before their own", {1, 1001, 2001}, {0, 1, 2}},
+    {"shared-mode", "below a boundary, at it, in the same mode, and one rpm above it", {999, 1000, 1001}, {0, 0, 1}},
 };
 
-const char *placement_name(placement where)
+enum { FAMILIES = sizeof families / sizeof families[0] };
+
+const family *find_family(const char *name)
 {
-    return placements[where].name;
+    for (unsigned i = 0; i < FAMILIES; i++)
+        if (strcmp(families[i].name, name) == 0)
+            return &families[i];
+    return NULL;
 }
 
 unsigned plans_of(unsigned rows)
@@ -102,12 +104,12 @@ static void take_all(plan *made, unsigned number)
     }
 }
 
-plan make_plan(placement where, unsigned rows, unsigned number)
+plan make_plan(const family *chosen, unsigned rows, unsigned number)
 {
     plan made = {.mode_lengths = {1, 1, 1}, .rows = rows};
     for (unsigned i = 0; i < rows; i++) {
-        made.speeds[i] = placements[where].speeds[i];
-        made.modes[i] = placements[where].modes[i];
+        made.speeds[i] = chosen->speeds[i];
+        made.modes[i] = chosen->modes[i];
     }
     take_all(&made, number);
     return made;
@@ -118,9 +120,10 @@ unsigned length_of(const plan *made, unsigned row)
     return made->mode_lengths[made->modes[row]];
 }
 
-void print_bounds(void)
+void print_bounds(const family *chosen)
 {
-    printf("sheets of 1 to %d rows, every follower set, job lengths 1 to %d, deadlines 1 to %d\n", MOST_ROWS, LENGTHS, DEADLINES);
+    printf("search %s: 1 to %d rows, %s\n", chosen->name, MOST_ROWS, chosen->rows);
+    printf("every follower set, job lengths of a mode 1 to %d, deadlines 1 to %d\n", LENGTHS, DEADLINES);
     printf("gaps of one and two rows: the deadline, one more or two more\n");
     printf("gaps of three rows: 1 out of a row with deadline 1; 4, 3 and 2 to rows 0, 1 and 2 out of one with deadline 2\n");
     printf("fixed tasks: none, the first or both of (%u, %u, %u) and (%u, %u, %u)\n", fixed_tasks[0].length, fixed_tasks[0].period,

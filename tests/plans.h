@@ -1,4 +1,4 @@
-/* A family of small sheets as plain numbers, before they are files. */
+/* Families of small sheets as plain numbers, before they are files. */
 #ifndef TESTS_PLANS_H
 #define TESTS_PLANS_H
 
@@ -33,20 +33,26 @@ typedef struct {
 
 extern const fixed_task fixed_tasks[MOST_TASKS];
 
-/* Where the rows of a plan stand among the boundaries. */
-typedef enum { AT_BOUNDARIES, ABOVE_BOUNDARIES, IN_SHARED_MODES, PLACEMENTS } placement;
+/* A family of plans by where its rows stand among the boundaries: their speeds, and the modes that they are in by those. */
+typedef struct {
+    const char *name;
+    const char *rows;
+    unsigned speeds[MOST_ROWS];
+    unsigned modes[MOST_ROWS];
+} family;
 
-const char *placement_name(placement where);
+/* The family of a name, or null. */
+const family *find_family(const char *name);
 
-/* How many plans have so many rows, and the one of a number below that. */
+/* How many plans of a family have so many rows, and the one of a number below that. */
 unsigned plans_of(unsigned rows);
-plan make_plan(placement where, unsigned rows, unsigned number);
+plan make_plan(const family *chosen, unsigned rows, unsigned number);
 
 /* The job length of a row. */
 unsigned length_of(const plan *made, unsigned row);
 
-/* Tells the bounds of the family. */
-void print_bounds(void);
+/* Tells the bounds of a family. */
+void print_bounds(const family *chosen);
 
 /* Writes the file of a plan, and says how many bytes it has. */
 size_t write_plan(const plan *made, uint8_t *bytes);

@@ -173,42 +173,41 @@ static void compare_plan(search *now)
 }
 
 /* Each call has all lent cells compared, and demand, which is asked at every interval, the witness area too. */
-static void print_counts(const char *name, counts counted)
+static void print_counts(const family *chosen, counts counted)
 {
     uint64_t intervals = counted.sheets * (HORIZON + 1);
-    printf("%s: %" PRIu64 " sheets, %" PRIu64 " intervals, %" PRIu64 " amounts, %" PRIu64 " sequences, %" PRIu64 " answers, ", name,
-           counted.sheets, intervals, counted.sheets * LARGEST, counted.sequences, counted.answers);
-    printf("%" PRIu64 " cells, %" PRIu64 " bytes compared, %" PRIu64 " wrong\n", counted.answers * LENT_CELLS, intervals * MOST_JOBS,
-           counted.wrong);
+    printf("%" PRIu64 " sheets, %" PRIu64 " intervals, %" PRIu64 " amounts, %" PRIu64 " sequences, ", counted.sheets, intervals,
+           counted.sheets * LARGEST, counted.sequences);
+    printf("%" PRIu64 " answers, %" PRIu64 " cells, %" PRIu64 " bytes\n", counted.answers, counted.answers * LENT_CELLS,
+           intervals * MOST_JOBS);
+    printf("search %s in all: %" PRIu64 " compared, %" PRIu64 " wrong\n", chosen->name, counted.answers, counted.wrong);
 }
 
-static void compare_family(search *now, placement where)
+static void compare_family(search *now, const family *chosen)
 {
     for (unsigned rows = 1; rows <= MOST_ROWS; rows++) {
         for (unsigned number = 0; number < plans_of(rows); number++) {
-            now->made = make_plan(where, rows, number);
+            now->made = make_plan(chosen, rows, number);
             compare_plan(now);
         }
     }
 }
 
-int main(void)
+int main(int argc, char **argv)
 {
     static search now;
-    counts all = {0, 0, 0, 0};
+    const family *chosen = argc == 2 ? find_family(argv[1]) : NULL;
+    if (chosen == NULL) {
+        fprintf(stderr, "usage: search FAMILY, one of those in plans.c\n");
+        return 2;
+    }
     now.sheet = make_area(MOST_PLAN_FILE, 0);
     now.cells = make_area(LENT_CELLS * CELL, 1);
     now.witness = make_area(MOST_JOBS, 2);
-    print_bounds();
+    print_bounds(chosen);
     printf("intervals and horizons 0 to %d, amounts 1 to %d; each call is lent %d cells, demand %d bytes\n", HORIZON, LARGEST,
            LENT_CELLS, MOST_JOBS);
-    for (placement where = 0; where < PLACEMENTS; where++) {
-        now.counted = (counts){0, 0, 0, 0};
-        compare_family(&now, where);
-        print_counts(placement_name(where), now.counted);
-        all.answers += now.counted.answers;
-        all.wrong += now.counted.wrong;
-    }
-    printf("search in all: %" PRIu64 " compared, %" PRIu64 " wrong\n", all.answers, all.wrong);
-    return all.wrong == 0 ? EXIT_SUCCESS : EXIT_FAILURE;
+    compare_family(&now, chosen);
+    print_counts(chosen, now.counted);
+    return now.counted.wrong == 0 ? EXIT_SUCCESS : EXIT_FAILURE;
 }
