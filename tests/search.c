@@ -112,10 +112,10 @@ static void tell_memory(search *now, call asked, uint64_t number, const char *fa
         printf(" %s\n", fault);
 }
 
-/* Whether the first lent bytes are those that must stand there, the others hold their marks, and nothing was written beside them. */
+/* Whether the first lent bytes are those that must stand there, and the others hold their marks. */
 static bool holds(const area *lent, const void *must, size_t used)
 {
-    return guard_changed(lent) == NULL && memcmp(lent->start, must, used) == 0 && is_kept(lent, used, lent->size - used);
+    return memcmp(lent->start, must, used) == 0 && is_kept(lent, used, lent->size - used);
 }
 
 /* Cells by amount go up to the amount, or to one more than the horizon; cells by interval from 0 to the interval. */
@@ -126,27 +126,36 @@ static bool cells_hold(const search *now, call asked, uint64_t number)
     return holds(&now->cells, by_amount ? now->found.least : now->found.best, now->made.rows * columns * CELL);
 }
 
-static const char *memory_fault(const search *now, call asked, uint64_t number, size_t rows)
+static const char *witness_fault(const search *now, uint64_t interval)
+{
+    if (guard_changed(&now->witness) != NULL)
+        return "wrote outside the witness area that it was lent";
+    if (!holds(&now->witness, now->found.witness[interval], now->found.witness_count[interval]))
+        return "left another witness area than it must";
+    return NULL;
+}
+
+/* What is wrong with lent memory after a call; null where nothing is. */
+static const char *memory_fault(const search *now, call asked, uint64_t number)
 {
     if (guard_changed(&now->cells) != NULL)
         return "wrote outside the cells that it was lent";
     if (!cells_hold(now, asked, number))
         return "left other cells than it must";
-    if (asked == DEMAND && !holds(&now->witness, now->found.witness[number], rows))
-        return "left another witness area than it must";
     if (guard_changed(&now->sheet) != NULL || memcmp(now->sheet.start, now->bytes, now->size) != 0)
         return "changed the sheet or what stands beside it";
-    return NULL;
+    return asked == DEMAND ? witness_fault(now, number) : NULL;
 }
 
 static void compare_call(search *now, call asked, uint64_t number)
 {
     outcome must = must_answer(now, asked, number);
     lend(&now->cells, LENT_CELLS * CELL);
-    lend(&now->witness, MOST_JOBS);
+    if (asked == DEMAND)
+        lend(&now->witness, MOST_JOBS);
     outcome got = ask(asked, &now->sheet, number, &now->cells, &now->witness);
     now->counted.answers++;
-    const char *fault = memory_fault(now, asked, number, must.count);
+    const char *fault = memory_fault(now, asked, number);
     if (!is_same(got, must))
         tell_answer(now, asked, number, got, must);
     else if (fault != NULL)
