@@ -4,8 +4,8 @@
 #include <stdio.h>
 #include <string.h>
 
-/* Choices for each digit. Out of three rows a gap is there or not, and how long it is follows from the deadline. */
-enum { LENGTHS = 3, DEADLINES = 2, GAPS = 4, TASKS = MOST_TASKS + 1 };
+/* Choices for each digit. Of three rows all followers are one digit, a bit for each pair of rows. */
+enum { LENGTHS = 3, DEADLINES = 2, GAPS = 4, TASKS = MOST_TASKS + 1, SETS = 1 << (MOST_ROWS * MOST_ROWS) };
 
 /* The deadline of the second task is longer than its period. */
 const fixed_task fixed_tasks[MOST_TASKS] = {{1, 5, 4}, {2, 3, 5}};
@@ -35,7 +35,7 @@ unsigned plans_of(unsigned rows)
     case 2:
         return TASKS * LENGTHS * LENGTHS * DEADLINES * DEADLINES * GAPS * GAPS * GAPS * GAPS;
     default:
-        return 512 * DEADLINES * DEADLINES * DEADLINES * LENGTHS * LENGTHS * LENGTHS;
+        return SETS * DEADLINES * DEADLINES * DEADLINES * LENGTHS * LENGTHS * LENGTHS;
     }
 }
 
@@ -68,12 +68,6 @@ static void take_gaps(plan *made, unsigned *number)
     }
 }
 
-/* A bit of the set for each pair of rows. */
-static unsigned take_set(unsigned *number)
-{
-    return take(number, 1 << (MOST_ROWS * MOST_ROWS));
-}
-
 /*
  * Three rows have no gap or one that follows from the deadline: out of a row with deadline 1 it is 1, out of one with deadline 2 it
  * is 4, 3 and 2, so that going on to a faster row is sooner than slowing down.
@@ -97,7 +91,7 @@ static void take_all(plan *made, unsigned number)
         take_gaps(made, &number);
     } else {
         made->tasks = number % TASKS;
-        unsigned set = take_set(&number);
+        unsigned set = take(&number, SETS);
         take_deadlines(made, &number);
         take_lengths(made, &number);
         shape_gaps(made, set);
