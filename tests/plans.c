@@ -1,0 +1,125 @@
+/* How the plans of a family are made from numbers, whose digits say one after the other what a plan has. */
+#include "plans.h"
+
+#include <stdio.h>
+#include <string.h>
+
+/* Choices for each digit. Of three rows all followers are one digit, a bit for each pair of rows. */
+enum { LENGTHS = 3, DEADLINES = 2, GAPS = 4, TASKS = MOST_TASKS + 1, SETS = 1 << (MOST_ROWS * MOST_ROWS) };
+
+/* The deadline of the second task is longer than its period. */
+const fixed_task fixed_tasks[MOST_TASKS] = {{1, 5, 4}, {2, 3, 5}};
+
+/* A boundary speed belongs to the slower mode. */
+static const family families[] = {
+    {"at-boundaries", "at boundary speeds, each in a mode of its own", {1000, 2000, 3000}, {0, 1, 2}},
+    {"above-boundaries", "one rpm above the boundary of the mode before their own", {1, 1001, 2001}, {0, 1, 2}},
+    {"shared-mode", "below a boundary, at it, in the same mode, and one rpm above it", {999, 1000, 1001}, {0, 0, 1}},
+};
+
+enum { FAMILIES = sizeof families / sizeof families[0] };
+
+const family *find_family(const char *name)
+{
+    for (unsigned i = 0; i < FAMILIES; i++)
+        if (strcmp(families[i].name, name) == 0)
+            return &families[i];
+    return NULL;
+}
+
+unsigned plans_of(unsigned rows)
+{
+    switch (rows) {
+    case 1:
+        return TASKS * LENGTHS * DEADLINES * GAPS;
+    case 2:
+        return TASKS * LENGTHS * LENGTHS * DEADLINES * DEADLINES * GAPS * GAPS * GAPS * GAPS;
+    default:
+        return SETS * DEADLINES * DEADLINES * DEADLINES * LENGTHS * LENGTHS * LENGTHS;
+    }
+}
+
+/* The next digit of a number, among so many. */
+static unsigned take(unsigned *number, unsigned choices)
+{
+    unsigned digit = *number % choices;
+    *number /= choices;
+    return digit;
+}
+
+static void take_lengths(plan *made, unsigned *number)
+{
+    for (unsigned i = 0; i < made->rows; i++)
+        made->mode_lengths[i] = 1 + take(number, LENGTHS);
+}
+
+static void take_deadlines(plan *made, unsigned *number)
+{
+    for (unsigned i = 0; i < made->rows; i++)
+        made->deadlines[i] = 1 + take(number, DEADLINES);
+}
+
+/* No follower, or a gap of the deadline, one more or two more. */
+static void take_gaps(plan *made, unsigned *number)
+{
+    for (unsigned i = 0; i < made->rows * made->rows; i++) {
+        unsigned row = i / made->rows, choice = take(number, GAPS);
+        made->gaps[row][i % made->rows] = choice == 0 ? 0 : made->deadlines[row] + choice - 1;
+    }
+}
+
+/*
+ * Three rows have no gap or one that follows from the deadline: out of a row with deadline 1 it is 1, out of one with deadline 2 it
+ * is 4, 3 and 2, so that going on to a faster row is sooner than slowing down.
+ */
+static void shape_gaps(plan *made, unsigned set)
+{
+    for (unsigned i = 0; i < MOST_ROWS * MOST_ROWS; i++) {
+        unsigned row = i / MOST_ROWS, follower = i % MOST_ROWS;
+        unsigned gap = made->deadlines[row] == 1 ? 1 : 4 - follower;
+        made->gaps[row][follower] = set >> i & 1 ? gap : 0;
+    }
+}
+
+/* Up to two rows every choice is made; of three rows the choices of fixed tasks take turns. */
+static void take_all(plan *made, unsigned number)
+{
+    if (made->rows < MOST_ROWS) {
+        made->tasks = take(&number, TASKS);
+        take_lengths(made, &number);
+        take_deadlines(made, &number);
+        take_gaps(made, &number);
+    } else {
+        made->tasks = number % TASKS;
+        unsigned set = take(&number, SETS);
+        take_deadlines(made, &number);
+        take_lengths(made, &number);
+        shape_gaps(made, set);
+    }
+}
+
+plan make_plan(const family *chosen, unsigned rows, unsigned number)
+{
+    plan made = {.mode_lengths = {1, 1, 1}, .rows = rows};
+    for (unsigned i = 0; i < rows; i++) {
+        made.speeds[i] = chosen->speeds[i];
+        made.modes[i] = chosen->modes[i];
+    }
+    take_all(&made, number);
+    return made;
+}
+
+unsigned length_of(const plan *made, unsigned row)
+{
+    return made->mode_lengths[made->modes[row]];
+}
+
+void print_bounds(const family *chosen)
+{
+    printf("search %s: 1 to %d rows, %s\n", chosen->name, MOST_ROWS, chosen->rows);
+    printf("every follower set, job lengths of a mode 1 to %d, deadlines 1 to %d\n", LENGTHS, DEADLINES);
+    printf("gaps of one and two rows: the deadline, one more or two more\n");
+    printf("gaps of three rows: 1 out of a row with deadline 1; 4, 3 and 2 to rows 0, 1 and 2 out of one with deadline 2\n");
+    printf("fixed tasks: none, the first or both of (%u, %u, %u) and (%u, %u, %u)\n", fixed_tasks[0].length, fixed_tasks[0].period,
+           fixed_tasks[0].deadline, fixed_tasks[1].length, fixed_tasks[1].period, fixed_tasks[1].deadline);
+}

@@ -1,0 +1,60 @@
+/* Families of small sheets as plain numbers, before they are files. */
+#ifndef TESTS_PLANS_H
+#define TESTS_PLANS_H
+
+#include <stddef.h>
+#include <stdint.h>
+
+enum { MOST_ROWS = 3, MOST_TASKS = 2 };
+
+/* Room for a file: three rows and two fixed tasks take 97 bytes. */
+enum { MOST_PLAN_FILE = 128 };
+
+/*
+ * Three modes, up to 1,000, 2,000 and 3,000 rpm, with the lengths of their jobs. Each row has a speed, and the mode that it is in by
+ * that; a deadline; and a gap to each row, 0 where that row may not follow. Of the fixed tasks there are none, the first or both.
+ */
+typedef struct {
+    unsigned mode_lengths[MOST_ROWS];
+    unsigned rows;
+    unsigned speeds[MOST_ROWS];
+    unsigned modes[MOST_ROWS];
+    unsigned deadlines[MOST_ROWS];
+    unsigned gaps[MOST_ROWS][MOST_ROWS];
+    unsigned tasks;
+} plan;
+
+/* A fixed-period task. */
+typedef struct {
+    unsigned length;
+    unsigned period;
+    unsigned deadline;
+} fixed_task;
+
+extern const fixed_task fixed_tasks[MOST_TASKS];
+
+/* A family of plans by where its rows stand among the boundaries: their speeds, and the modes that they are in by those. */
+typedef struct {
+    const char *name;
+    const char *rows;
+    unsigned speeds[MOST_ROWS];
+    unsigned modes[MOST_ROWS];
+} family;
+
+/* The family of a name, or null. */
+const family *find_family(const char *name);
+
+/* How many plans of a family have so many rows, and the one of a number below that. */
+unsigned plans_of(unsigned rows);
+plan make_plan(const family *chosen, unsigned rows, unsigned number);
+
+/* The job length of a row. */
+unsigned length_of(const plan *made, unsigned row);
+
+/* Tells the bounds of a family. */
+void print_bounds(const family *chosen);
+
+/* Writes the file of a plan, and says how many bytes it has. */
+size_t write_plan(const plan *made, uint8_t *bytes);
+
+#endif

@@ -1,0 +1,222 @@
+/*
+ * Holds all answers of the library on a family of small sheets, and all memory that it was lent, to what every allowed sequence of
+ * rows shows. The sequences are found by brute force, without the library and without a table.
+ */
+#include <inttypes.h>
+#include <stdio.h>
+#include <stdlib.h>
+#include <string.h>
+
+#include "calls.h"
+#include "sequences.h"
+
+/* What is told; more than this is counted only. */
+enum { MOST_TOLD = 20 };
+
+/* Cells that are lent to each call: some more than three rows need. */
+enum { LENT_CELLS = 40, CELL = sizeof(uint32_t) };
+
+typedef struct {
+    uint64_t sheets;
+    uint64_t sequences;
+    uint64_t answers;
+    uint64_t wrong;
+} counts;
+
+/* A plan with its file and what its sequences show, and the memory that is lent. */
+typedef struct {
+    plan made;
+    findings found;
+    uint8_t bytes[MOST_PLAN_FILE];
+    size_t size;
+    area sheet;
+    area cells;
+    area witness;
+    counts counted;
+} search;
+
+/* What the fixed tasks of a plan need up to an interval, as document 01 has it. */
+static int64_t fixed_demand(const plan *made, int64_t interval)
+{
+    int64_t needed = 0;
+    for (unsigned i = 0; i < made->tasks; i++) {
+        int64_t later = interval - fixed_tasks[i].deadline;
+        if (0 <= later)
+            needed += fixed_tasks[i].length * (1 + later / fixed_tasks[i].period);
+    }
+    return needed;
+}
+
+static int64_t margin_at(const search *now, uint64_t interval)
+{
+    int64_t ticks = (int64_t)interval;
+    return ticks - now->found.demand[interval] - fixed_demand(&now->made, ticks);
+}
+
+/* The first interval up to a horizon that is overrun, or 0. */
+static int64_t overrun_by(const search *now, uint64_t horizon)
+{
+    for (uint64_t interval = 1; interval <= horizon; interval++)
+        if (margin_at(now, interval) < 0)
+            return (int64_t)interval;
+    return 0;
+}
+
+/* An amount that is never reached is refused by 14. */
+static outcome shortest_for(const search *now, uint64_t amount)
+{
+    uint32_t time = now->found.shortest[amount - 1];
+    return time == NEVER ? (outcome){14, 0, 0, 0} : (outcome){0, 0, time, 0};
+}
+
+static outcome must_answer(const search *now, call asked, uint64_t number)
+{
+    switch (asked) {
+    case DEMAND:
+        return (outcome){0, 0, now->found.demand[number], now->found.witness_count[number]};
+    case MARGIN:
+        return (outcome){0, 0, margin_at(now, number), 0};
+    case SHORTEST:
+        return shortest_for(now, number);
+    default:
+        return (outcome){0, 0, overrun_by(now, number), 0};
+    }
+}
+
+/* Counts a wrong answer, and says whether it is told: then the line begins with the sheet as a text of cases has it. */
+static bool tell_wrong(search *now, call asked, uint64_t number)
+{
+    if (MOST_TOLD < ++now->counted.wrong)
+        return false;
+    printf("sheet ");
+    for (size_t i = 0; i < now->size; i++)
+        printf("%02X", now->bytes[i]);
+    printf(": %s %" PRIu64, name_of(asked), number);
+    return true;
+}
+
+static void tell_answer(search *now, call asked, uint64_t number, outcome got, outcome must)
+{
+    char spelled[SPELLED], expected[SPELLED];
+    area rows = {.start = now->found.witness[number], .size = MOST_JOBS};
+    if (!tell_wrong(now, asked, number))
+        return;
+    spell(expected, asked, must, &rows);
+    spell(spelled, asked, got, &now->witness);
+    printf(" expected %s, got %s\n", expected, spelled);
+}
+
+static void tell_memory(search *now, call asked, uint64_t number, const char *fault)
+{
+    if (tell_wrong(now, asked, number))
+        printf(" %s\n", fault);
+}
+
+/* Whether the first lent bytes are those that must stand there, and the others hold their marks. */
+static bool holds(const area *lent, const void *must, size_t used)
+{
+    return memcmp(lent->start, must, used) == 0 && is_kept(lent, used, lent->size - used);
+}
+
+/* Cells by amount go up to the amount, or to one more than the horizon; cells by interval from 0 to the interval. */
+static bool cells_hold(const search *now, call asked, uint64_t number)
+{
+    bool by_amount = asked == SHORTEST || asked == VERDICT_BY_AMOUNT;
+    size_t columns = asked == SHORTEST ? number : number + 1;
+    return holds(&now->cells, by_amount ? now->found.least : now->found.best, now->made.rows * columns * CELL);
+}
+
+static const char *witness_fault(const search *now, uint64_t interval)
+{
+    if (guard_changed(&now->witness) != NULL)
+        return "wrote outside the witness area that it was lent";
+    if (!holds(&now->witness, now->found.witness[interval], now->found.witness_count[interval]))
+        return "left another witness area than it must";
+    return NULL;
+}
+
+/* What is wrong with lent memory after a call; null where nothing is. */
+static const char *memory_fault(const search *now, call asked, uint64_t number)
+{
+    if (guard_changed(&now->cells) != NULL)
+        return "wrote outside the cells that it was lent";
+    if (!cells_hold(now, asked, number))
+        return "left other cells than it must";
+    if (guard_changed(&now->sheet) != NULL || memcmp(now->sheet.start, now->bytes, now->size) != 0)
+        return "changed the sheet or what stands beside it";
+    return asked == DEMAND ? witness_fault(now, number) : NULL;
+}
+
+static void compare_call(search *now, call asked, uint64_t number)
+{
+    outcome must = must_answer(now, asked, number);
+    lend(&now->cells, LENT_CELLS * CELL);
+    if (asked == DEMAND)
+        lend(&now->witness, MOST_JOBS);
+    outcome got = ask(asked, &now->sheet, number, &now->cells, &now->witness);
+    now->counted.answers++;
+    const char *fault = memory_fault(now, asked, number);
+    if (!is_same(got, must))
+        tell_answer(now, asked, number, got, must);
+    else if (fault != NULL)
+        tell_memory(now, asked, number, fault);
+}
+
+/* Every interval up to the horizon, and every amount with the horizon one below it, whose cells are the same. */
+static void compare_plan(search *now)
+{
+    now->size = write_plan(&now->made, now->bytes);
+    find_all(&now->made, &now->found);
+    lend_copy(&now->sheet, now->bytes, now->size);
+    for (uint64_t interval = 0; interval <= HORIZON; interval++) {
+        compare_call(now, DEMAND, interval);
+        compare_call(now, MARGIN, interval);
+        compare_call(now, VERDICT_BY_INTERVAL, interval);
+    }
+    for (uint64_t amount = 1; amount <= LARGEST; amount++) {
+        compare_call(now, SHORTEST, amount);
+        compare_call(now, VERDICT_BY_AMOUNT, amount - 1);
+    }
+    now->counted.sheets++;
+    now->counted.sequences += now->found.sequences;
+}
+
+/* Each call has all lent cells compared, and demand, which is asked at every interval, the witness area too. */
+static void print_counts(const family *chosen, counts counted)
+{
+    uint64_t intervals = counted.sheets * (HORIZON + 1);
+    printf("%" PRIu64 " sheets, %" PRIu64 " intervals, %" PRIu64 " amounts, %" PRIu64 " sequences, ", counted.sheets, intervals,
+           counted.sheets * LARGEST, counted.sequences);
+    printf("%" PRIu64 " answers, %" PRIu64 " cells, %" PRIu64 " bytes\n", counted.answers, counted.answers * LENT_CELLS,
+           intervals * MOST_JOBS);
+    printf("search %s in all: %" PRIu64 " compared, %" PRIu64 " wrong\n", chosen->name, counted.answers, counted.wrong);
+}
+
+static void compare_family(search *now, const family *chosen)
+{
+    for (unsigned rows = 1; rows <= MOST_ROWS; rows++) {
+        for (unsigned number = 0; number < plans_of(rows); number++) {
+            now->made = make_plan(chosen, rows, number);
+            compare_plan(now);
+        }
+    }
+}
+
+int main(int argc, char **argv)
+{
+    static search now;
+    const family *chosen = argc == 2 ? find_family(argv[1]) : NULL;
+    if (chosen == NULL) {
+        fprintf(stderr, "usage: search FAMILY, one of those in plans.c\n");
+        return 2;
+    }
+    now.sheet = make_area(MOST_PLAN_FILE, 0);
+    now.cells = make_area(LENT_CELLS * CELL, 1);
+    now.witness = make_area(MOST_JOBS, 2);
+    print_bounds(chosen);
+    printf("intervals and horizons 0 to %d, amounts 1 to %d; each call is lent %d cells, demand %d bytes\n", HORIZON, LARGEST,
+           LENT_CELLS, MOST_JOBS);
+    compare_family(&now, chosen);
+    print_counts(chosen, now.counted);
+    return now.counted.wrong == 0 ? EXIT_SUCCESS : EXIT_FAILURE;
+}

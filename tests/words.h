@@ -1,0 +1,37 @@
+/* The words that a line of cases can begin with. Each is read by one function, which is given the whole line. */
+#ifndef TESTS_WORDS_H
+#define TESTS_WORDS_H
+
+#include "calls.h"
+#include "text.h"
+#include "trial.h"
+
+/* sheet_words.c: what the cases from here on are about. */
+void read_group(trial *now, const line *said);
+void read_sheet(trial *now, const line *said);
+void read_more(trial *now, const line *said);
+void read_lend(trial *now, const line *said);
+
+/* judge_words.c: what the file is. */
+void read_accepted(trial *now, const line *said);
+void read_refused(trial *now, const line *said);
+void read_label(trial *now, const line *said);
+
+/* reader_words.c: single steps of the reader, and what becomes of a file that is cut off. */
+void read_field(trial *now, const line *said);
+void read_prefixes(trial *now, const line *said);
+
+/* call_words.c: what the calls answer, and what they leave in the cells. */
+void read_demand(trial *now, const line *said);
+void read_margin(trial *now, const line *said);
+void read_verdict(trial *now, const line *said);
+void read_shortest(trial *now, const line *said);
+void read_cell(trial *now, const line *said);
+
+/* Whether the line ends, from a word on, with `refused NUMBER PLACE`. */
+bool refusal_said(const line *said, size_t at, outcome *must);
+
+/* Tells of an answer that is not the one that the line says from a word on. */
+void hold_answer(trial *now, call asked, outcome got, outcome must, word expected);
+
+#endif
