@@ -60,6 +60,10 @@ row-length bytes start size e =
     let n = neither _ _ e in
     (long-enough 3 size (n .0), eqb-true _ _ (not-false _ (n .1)))
 
+-- a row's content is as long as its head and its gaps, and there is room for one more row
+abbrev pub RowFits : List ℕ → Tally → ℕ → ℕ → Type 0
+RowFits bytes tally start size = (headSize ≤ size) × (size ≡ headSize + gapSize * followerCount (longAt bytes (start + 4))) × (tally .rows < rowLimit)
+
 module _ (bytes : List ℕ) (tally : Tally) (start size : ℕ) where
   pub head-numbered : (kind : Kind) → T (numbered (headRules bytes tally kind start size))
   unfolding headRules
@@ -101,8 +105,7 @@ module _ (bytes : List ℕ) (tally : Tally) (start size : ℕ) where
     mode-fits e k = common-fits 2 _ _ _ (rw e at k)
 
     -- a row has its head and its gaps
-    pub row-fits : kind ≡ RowField → Kept (headRules bytes tally kind start size)
-        → (headSize ≤ size) × (size ≡ headSize + gapSize * followerCount (longAt bytes (start + 4))) × (tally .rows < rowLimit)
+    pub row-fits : kind ≡ RowField → Kept (headRules bytes tally kind start size) → RowFits bytes tally start size
     unfolding headRules lineOf fields
     row-fits e k =
         let says = common-says _ _ _ _ (rw e at k) in

@@ -1,16 +1,12 @@
 -- `own_number` meets its contract: each arm has the rules of its kind.
-use Prim.Native.Nat.{_+_, _*_, _≤_, _<_}
-use Rattle.sheet.proofs.Numbered.{head-kept, mode-fits, row-fits, task-fits}
+use Rattle.sheet.proofs.Numbered.{head-kept, RowFits, mode-fits, row-fits, task-fits}
 use Rattle.sheet.proofs.judging.own_number.Statement.{statement}
 use Rattle.fields.proofs.Deciding.{Kept}
 use Rattle.fields.specs.Deciding.{firstBroken}
 use Rattle.sheet.specs.Judging.{headRules, ownRules}
-use Rattle.fields.specs.Limits.{rowLimit, headSize, gapSize}
-use Rattle.fields.specs.Reading.{longAt}
-use Rattle.rules.specs.Rules.{followerCount}
 use borrow.Author.Needs.{needs}
 use denote.Ref.{now}
-use mathlib.Core.Path.{_≡_, refl}
+use mathlib.Core.Path.{refl}
 use native.Mathlib.Omega.{arith}
 use Rattle.sheet.proofs.judging.own_number.Tie as tie
 
@@ -19,9 +15,7 @@ kept : (s : tie.Start) → let a = s .args in Kept (headRules (now (a .bytes)) (
 kept s = head-kept _ _ _ _ _ (s .pre .1)
 
 -- a row that keeps them has its head and all its gaps
-row : (c : tie.After-enum-told4) →
-    let a = c .before .before .before .args in
-    (headSize ≤ a .size) × (a .size ≡ headSize + gapSize * followerCount (longAt (now (a .bytes)) (a .start + 4))) × (a .tally .rows < rowLimit)
+row : (c : tie.After-enum-told4) → let a = c .before .before .before .args in RowFits (now (a .bytes)) (a .tally) (a .start) (a .size)
 row c = row-fits _ _ _ _ _ (c .enum-told4 .given .1) (kept (c .before .before .before))
 
 mode-at-requires : tie.Need-mode-at-requires

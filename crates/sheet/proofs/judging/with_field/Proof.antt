@@ -1,16 +1,14 @@
 -- `with_field` meets its contract: each arm adds what its kind adds.
-use Prim.Native.Nat.{_+_, _*_, _≤_, _<_}
-use Rattle.sheet.proofs.Numbered.{first-kept, mode-fits, row-fits, task-fits}
+use Prim.Native.Nat.{_≤_, _<_}
+use Rattle.sheet.proofs.Numbered.{first-kept, RowFits, mode-fits, row-fits, task-fits}
 use Rattle.sheet.proofs.judging.with_field.Statement.{statement}
 use Rattle.fields.proofs.Deciding.{Kept}
 use Rattle.sheet.specs.Judging.{headRules, withField}
-use Rattle.fields.specs.Limits.{modeLimit, rowLimit, taskLimit, headSize, gapSize}
-use Rattle.fields.specs.Reading.{longAt}
-use Rattle.rules.specs.Rules.{followerCount}
+use Rattle.fields.specs.Limits.{modeLimit, taskLimit}
 use Rattle.sheet.specs.Values.{withMode, withRow, withTask}
 use borrow.Author.Needs.{needs}
 use denote.Ref.{now}
-use mathlib.Core.Path.{_≡_, _∙_, refl, ap}
+use mathlib.Core.Path.{_∙_, refl, ap}
 use native.Mathlib.Omega.{arith}
 use Rattle.sheet.proofs.judging.with_field.Tie as tie
 
@@ -21,9 +19,7 @@ kept s = first-kept _ _ _ _ _ (s .pre .1)
 mode : (c : tie.After-enum-told3) → let a = c .before .before .before .args in (4 ≤ a .size) × (a .sheet .tally .modes < modeLimit)
 mode c = mode-fits _ _ _ _ _ (c .enum-told3 .given .1) (kept (c .before .before .before))
 
-row : (c : tie.After-enum-told4) →
-    let a = c .before .before .before .args in
-    (headSize ≤ a .size) × (a .size ≡ headSize + gapSize * followerCount (longAt (now (a .bytes)) (a .start + 4))) × (a .sheet .tally .rows < rowLimit)
+row : (c : tie.After-enum-told4) → let a = c .before .before .before .args in RowFits (now (a .bytes)) (a .sheet .tally) (a .start) (a .size)
 row c = row-fits _ _ _ _ _ (c .enum-told4 .given .1) (kept (c .before .before .before))
 
 task : (c : tie.After-enum-told5) → let a = c .before .before .before .args in (6 ≤ a .size) × (a .sheet .tally .tasks < taskLimit)
