@@ -1,7 +1,7 @@
 -- `shortest` meets its contract: it refuses as it begins, or answers as `shortest_in` does.
-use Rattle.beginning.proofs.GoingOn.{GoesOn, goes-on, room-enough, goes-answering}
+use Rattle.beginning.proofs.GoingOn.{GoesOn, goes-on, goes-answering, amount-handed}
 use Rattle.desk.specs.Calls.{ShortestCall}
-use Rattle.beginning.proofs.Beginnings.{begun-refused, amount-some}
+use Rattle.beginning.proofs.Beginnings.{begun-refused}
 use Rattle.desk.proofs.shortest.Statement.{statement}
 use Rattle.beginning.specs.Beginning.{badAmount}
 use borrow.Author.Needs.{needs}
@@ -19,9 +19,7 @@ going c =
     goes-on _ _ _ _ _ (λ i. omega (arith, c .before .before .before .before .before .shared-slice-known .given i)) (c .before .before .before .begin-amount .ensures) (c .enum-told .given .1)
 
 shortest-in-requires : tie.Need-shortest-in-requires
-shortest-in-requires c κs =
-    let g = going (c .before) in
-    (g .ready, (g .same, (amount-some _ (g .in-range), room-enough _ _ _ _ _ g)))
+shortest-in-requires c κs = amount-handed _ _ _ _ (going (c .before))
 
 returns : tie.Need-returns
 unfolding ShortestCall

@@ -1,5 +1,5 @@
 -- `demand_in` meets its contract: what it reads off the filled lines is the demand and its witness.
-use Prim.Native.Nat.{ℕ, _+_, _≤_, _<_}
+use Prim.Native.Nat.{ℕ, _+_, _≤_, _<_, _*_}
 use Rattle.tables.specs.Lines.{HasLines}
 use Rattle.desk.proofs.Telling.{room-told, lines-told, demand-too-long, demand-written}
 use Rattle.desk.proofs.answering.demand_in.Statement.{statement}
@@ -11,10 +11,14 @@ use lib.ListN.{length}
 use mathlib.Core.Path.{subst}
 use Rattle.desk.proofs.answering.demand_in.Tie as tie
 
+-- there is room for the lines of the sheet
+room : (s : tie.Start) → s .args .sheet .tally .rows * (s .args .t + 1) ≤ length (now (s .args .cells))
+room s = room-told _ _ (s .pre .1 .0) (s .pre .0) (s .args .t + 1) (now (s .args .cells)) (s .pre .1 .1 .1)
+
 fill-by-interval-requires : tie.Need-fill-by-interval-requires
 fill-by-interval-requires c κs =
     let s = c .before .before .before .before in
-    (s .pre .0, (s .pre .1 .1 .0, room-told _ _ (s .pre .1 .0) (s .pre .0) (s .args .t + 1) (now (s .args .cells)) (s .pre .1 .1 .1)))
+    (s .pre .0, (s .pre .1 .1 .0, room s))
 
 -- the filled lines
 table : (c : tie.After-fill-by-interval) →
@@ -22,7 +26,7 @@ table : (c : tie.After-fill-by-interval) →
     HasLines (a .sheet .tally .rows) (ByInterval (graphOf (now (a .bytes)) (a .sheet))) (c .fill-by-interval .last .1 .1 .0) (a .t + 1)
 table c =
     let s = c .before .before .before .before .before in
-    lines-told _ _ (s .pre .1 .0) (s .pre .0) _ _ _ (room-told _ _ (s .pre .1 .0) (s .pre .0) (s .args .t + 1) (now (s .args .cells)) (s .pre .1 .1 .1)) (c .fill-by-interval .ensures)
+    lines-told _ _ (s .pre .1 .0) (s .pre .0) _ _ _ (room s) (c .fill-by-interval .ensures)
 
 demand-of-requires : tie.Need-demand-of-requires
 demand-of-requires c κs = table (c .before .before .before .before) .room
@@ -33,7 +37,7 @@ witness-count-requires c κs = (c .before .before .before .before .before .befor
 returns : tie.Need-returns
 returns c =
     let s = c .before .before .before .before .before .before .before .before .before .before .before .before .before in
-    demand-too-long _ _ (s .pre .1 .0) (s .pre .0) _ _ _ (room-told _ _ (s .pre .1 .0) (s .pre .0) (s .args .t + 1) (now (s .args .cells)) (s .pre .1 .1 .1)) (c .before .before .before .before .before .before .before .before .fill-by-interval .ensures)
+    demand-too-long _ _ (s .pre .1 .0) (s .pre .0) _ _ _ (room s) (c .before .before .before .before .before .before .before .before .fill-by-interval .ensures)
     (c .before .before .before .demand-of .result) (now (s .args .area)) (c .before .before .before .demand-of .ensures) (subst (λ (x : ℕ). length (now (s .args .area)) < x) (c .before .witness-count .ensures) (c .if1 .taken))
 
 write-witness-requires : tie.Need-write-witness-requires
@@ -45,7 +49,7 @@ returns-2 : tie.Need-returns-2
 returns-2 c =
     let s = c .before .before .before .before .before .before .before .before .before .before .before .before .before .before .before .before .before .before in
     let written = c .before .before .write-witness .ensures in
-    demand-written _ _ (s .pre .1 .0) (s .pre .0) _ _ _ (room-told _ _ (s .pre .1 .0) (s .pre .0) (s .args .t + 1) (now (s .args .cells)) (s .pre .1 .1 .1)) (c .before .before .before .before .before .before .before .before .before .before .before .before .before .fill-by-interval .ensures)
+    demand-written _ _ (s .pre .1 .0) (s .pre .0) _ _ _ (room s) (c .before .before .before .before .before .before .before .before .before .before .before .before .before .fill-by-interval .ensures)
     _ _ _ _ (c .before .before .before .before .before .before .before .before .demand-of .ensures) (c .before .before .before .before .before .before .witness-count .ensures)
     (subst (λ (x : ℕ). x ≤ length (now (s .args .area))) (c .before .before .before .before .before .before .witness-count .ensures) (c .before .before .before .before .before .if1 .left)) (written .is)
 

@@ -1,5 +1,5 @@
 -- `margin_in` meets its contract: what it reads off the filled lines is the demand, and the two demands together fit well.
-use Prim.Native.Nat.{_^_, ℕ, _+_, _<_}
+use Prim.Native.Nat.{_^_, ℕ, _+_, _<_, _*_, _≤_}
 use Rattle.tables.specs.Lines.{HasLines}
 use Rattle.desk.proofs.Telling.{room-told, lines-told, margin-told, difference-kept}
 use Rattle.desk.proofs.answering.margin_in.Statement.{statement}
@@ -8,6 +8,7 @@ use Rattle.sheet.specs.Meaning.{graphOf}
 use Rattle.meaning.specs.Cells.{ByInterval}
 use borrow.Author.Needs.{needs}
 use denote.Ref.{now}
+use lib.ListN.{length}
 use lib.IntN.{ℤ}
 use mathlib.Core.Path.{_∙_, sym, ap, subst}
 use mir.Syntax.{w64}
@@ -15,10 +16,14 @@ use mir.Val.{toZ, ofZ}
 use native.Mathlib.Omega.{arith}
 use Rattle.desk.proofs.answering.margin_in.Tie as tie
 
+-- there is room for the lines of the sheet
+room : (s : tie.Start) → s .args .sheet .tally .rows * (s .args .t + 1) ≤ length (now (s .args .cells))
+room s = room-told _ _ (s .pre .1 .0) (s .pre .0) (s .args .t + 1) (now (s .args .cells)) (s .pre .1 .1 .1)
+
 fill-by-interval-requires : tie.Need-fill-by-interval-requires
 fill-by-interval-requires c κs =
     let s = c .before .before .before in
-    (s .pre .0, (s .pre .1 .1 .0, room-told _ _ (s .pre .1 .0) (s .pre .0) (s .args .t + 1) (now (s .args .cells)) (s .pre .1 .1 .1)))
+    (s .pre .0, (s .pre .1 .1 .0, room s))
 
 -- the filled lines
 table : (c : tie.After-fill-by-interval) →
@@ -26,7 +31,7 @@ table : (c : tie.After-fill-by-interval) →
     HasLines (a .sheet .tally .rows) (ByInterval (graphOf (now (a .bytes)) (a .sheet))) (c .fill-by-interval .last .1 .1 .0) (a .t + 1)
 table c =
     let s = c .before .before .before .before in
-    lines-told _ _ (s .pre .1 .0) (s .pre .0) _ _ _ (room-told _ _ (s .pre .1 .0) (s .pre .0) (s .args .t + 1) (now (s .args .cells)) (s .pre .1 .1 .1)) (c .fill-by-interval .ensures)
+    lines-told _ _ (s .pre .1 .0) (s .pre .0) _ _ _ (room s) (c .fill-by-interval .ensures)
 
 demand-of-requires : tie.Need-demand-of-requires
 demand-of-requires c κs = table (c .before .before .before .before) .room
@@ -51,7 +56,7 @@ returns c =
     let s = c .before .before .before .before .before .before .before .before .before .before .before in
     let small : s .args .t < 2 ^ 63 = omega arith in
     let sum : c .before .before .demand-of .result + c .before .fixed-sum .result < 2 ^ 63 = omega (arith, sum-fits (c .before)) in
-    margin-told _ _ (s .pre .1 .0) (s .pre .0) _ _ _ (room-told _ _ (s .pre .1 .0) (s .pre .0) (s .args .t + 1) (now (s .args .cells)) (s .pre .1 .1 .1)) (c .before .before .before .before .before .before .before .fill-by-interval .ensures)
+    margin-told _ _ (s .pre .1 .0) (s .pre .0) _ _ _ (room s) (c .before .before .before .before .before .before .before .fill-by-interval .ensures)
     _ _ _ (c .before .before .demand-of .ensures) (c .before .fixed-sum .ensures) (ap (λ (z : ℤ). toZ w64 (ofZ w64 z)) (c .less .ensures) ∙ difference-kept _ _ small sum)
 
 pub margin-in-spec : {M : Type 1} → statement M

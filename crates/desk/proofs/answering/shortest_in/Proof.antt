@@ -4,32 +4,37 @@ use Rattle.desk.proofs.Telling.{room-told, shortest-answers, gives-none
 use Rattle.desk.proofs.answering.shortest_in.Statement.{statement}
 use borrow.Author.Needs.{needs}
 use denote.Ref.{now}
+use lib.ListN.{length}
 use mathlib.Core.Path.{sym, subst}
 use Rattle.desk.proofs.answering.shortest_in.Tie as tie
+
+-- there is room for the lines of the sheet
+room : (s : tie.Start) → s .args .sheet .tally .rows * s .args .amount ≤ length (now (s .args .cells))
+room s = room-told _ _ (s .pre .1 .0) (s .pre .0) (s .args .amount) (now (s .args .cells)) (s .pre .1 .1 .1)
 
 fill-by-amount-requires : tie.Need-fill-by-amount-requires
 fill-by-amount-requires c κs =
     let s = c .before .before .before in
-    (s .pre .0, room-told _ _ (s .pre .1 .0) (s .pre .0) (s .args .amount) (now (s .args .cells)) (s .pre .1 .1 .1))
+    (s .pre .0, room s)
 
 shortest-of-requires : tie.Need-shortest-of-requires
 shortest-of-requires c κs =
     let s = c .before .before .before .before .before .before .before .before in (
       s .pre .1 .1 .0,
       subst (λ (x : ℕ). s .args .sheet .tally .rows * s .args .amount ≤ x) (sym (c .before .before .before .before .fill-by-amount .ensures .same-length))
-          (room-told _ _ (s .pre .1 .0) (s .pre .0) (s .args .amount) (now (s .args .cells)) (s .pre .1 .1 .1)),
+          (room s),
     )
 
 returns : tie.Need-returns
 returns c =
     let s = c .before .before .before .before .before .before .before .before .before .before in
-    shortest-answers _ _ (s .pre .1 .0) (s .pre .0) _ (s .pre .1 .1 .0) _ _ (room-told _ _ (s .pre .1 .0) (s .pre .0) (s .args .amount) (now (s .args .cells)) (s .pre .1 .1 .1)) (c .before .before .before .before .before .before .fill-by-amount .ensures)
+    shortest-answers _ _ (s .pre .1 .0) (s .pre .0) _ (s .pre .1 .1 .0) _ _ (room s) (c .before .before .before .before .before .before .fill-by-amount .ensures)
     _ _ (c .before .shortest-of .ensures) (gives-none _ (c .if1 .taken))
 
 returns-2 : tie.Need-returns-2
 returns-2 c =
     let s = c .before .before .before .before .before .before .before .before .before .before in
-    shortest-answers _ _ (s .pre .1 .0) (s .pre .0) _ (s .pre .1 .1 .0) _ _ (room-told _ _ (s .pre .1 .0) (s .pre .0) (s .args .amount) (now (s .args .cells)) (s .pre .1 .1 .1)) (c .before .before .before .before .before .before .fill-by-amount .ensures)
+    shortest-answers _ _ (s .pre .1 .0) (s .pre .0) _ (s .pre .1 .1 .0) _ _ (room s) (c .before .before .before .before .before .before .fill-by-amount .ensures)
     _ _ (c .before .shortest-of .ensures) (gives-time _ (c .if1 .left))
 
 pub shortest-in-spec : {M : Type 1} → statement M

@@ -4,13 +4,18 @@ use Rattle.desk.proofs.Telling.{room-told, verdict-told}
 use Rattle.desk.proofs.answering.verdict_in.Statement.{statement}
 use borrow.Author.Needs.{needs}
 use denote.Ref.{now}
+use lib.ListN.{length}
 use mathlib.Core.Path.{sym, subst}
 use Rattle.desk.proofs.answering.verdict_in.Tie as tie
+
+-- there is room for the lines of the sheet
+room : (s : tie.Start) → s .args .sheet .tally .rows * (s .args .horizon + 1) ≤ length (now (s .args .cells))
+room s = room-told _ _ (s .pre .1 .0) (s .pre .0) (s .args .horizon + 1) (now (s .args .cells)) (s .pre .1 .1 .1)
 
 fill-requires : tie.Need-fill-requires
 fill-requires c κs =
     let s = c .before .before .before in
-    (s .pre .0, (s .pre .1 .1 .0, room-told _ _ (s .pre .1 .0) (s .pre .0) (s .args .horizon + 1) (now (s .args .cells)) (s .pre .1 .1 .1)))
+    (s .pre .0, (s .pre .1 .1 .0, room s))
 
 sweep-requires : tie.Need-sweep-requires
 sweep-requires c κs =
@@ -19,14 +24,14 @@ sweep-requires c κs =
       (
         s .pre .1 .1 .0,
         subst (λ (x : ℕ). s .args .sheet .tally .rows * (s .args .horizon + 1) ≤ x) (sym (c .before .before .before .fill .ensures .same-length))
-            (room-told _ _ (s .pre .1 .0) (s .pre .0) (s .args .horizon + 1) (now (s .args .cells)) (s .pre .1 .1 .1)),
+            (room s),
       ),
     )
 
 returns : tie.Need-returns
 returns c =
     let s = c .before .before .before .before .before .before .before .before .before in
-    verdict-told _ _ (s .pre .1 .0) (s .pre .0) (s .args .table) _ _ _ (room-told _ _ (s .pre .1 .0) (s .pre .0) (s .args .horizon + 1) (now (s .args .cells)) (s .pre .1 .1 .1)) (c .before .before .before .before .before .fill .ensures)
+    verdict-told _ _ (s .pre .1 .0) (s .pre .0) (s .args .table) _ _ _ (room s) (c .before .before .before .before .before .fill .ensures)
     (c .before .sweep .result) (c .before .sweep .ensures) _ (c .as-answer .ensures)
 
 pub verdict-in-spec : {M : Type 1} → statement M
