@@ -1,19 +1,23 @@
 /*
- * The calls of the desk for C, as the archive of `rt staticlib marnipode` has them (x86-64, target/staticlib/libmarnipode.a).
+ * The calls of the desk for C and C++, over the archive libmarnipode.a (x86-64), which `rt staticlib marnipode` makes.
+ *
+ * A sheet is a file of speeds, job lengths, deadlines and gaps; docs/FORMAT.md has it byte by byte. Times are in ticks of 10
+ * microseconds, amounts are sums of job lengths, so they are in ticks too.
  *
  * What a caller owes, since no call can see it:
- *   - a pointer stands for as many elements as the size or count after it says, aligned as its type asks; for 0 elements
- *     any pointer will do that is not null;
- *   - nothing else writes an argument while a call runs, and a lent area (cells, witness) overlaps no other argument.
+ *   - a pointer stands for as many elements as the size or count after it says, aligned as its type asks; for 0 elements it
+ *     may be null;
+ *   - nothing else writes an argument while a call runs, and a lent area (cells, witness) overlaps no other argument;
+ *   - MARNIPODE_MOST_STACK bytes of stack are left.
  * Nothing else is asked: any bytes may be given as a sheet and any numbers as an interval, amount, horizon or place. A lent
- * area may hold anything before. Calls keep nothing from one to the next, so several threads may call at once on areas of
- * their own.
+ * area may hold anything before.
  *
- * What a call answers: `number` is 0 where it succeeds, else the number of the refusal, 1 to 14, and `place` is where in the
- * file it was given, 0 from 11 on. The other numbers of a refusal are 0. Refusals 1 to 12 change no lent cell or byte. 13
- * and 14 leave the cells as success would, and 13 leaves the witness area as it was.
+ * What a call answers: `number` is 0 where it succeeds, and `place` is 0 then; else `number` is that of the refusal, named below,
+ * and `place` is where in the sheet it was given, 0 from 11 on. The other numbers of a refusal are 0. Refusals 1 to 12 change
+ * no lent cell or byte. 13 and 14 leave the cells as success would, and 13 leaves the witness area as it was.
  *
- * Times are in ticks of 10 microseconds, amounts are sums of job lengths.
+ * Calls keep nothing from one to the next and allocate nothing, so several threads may call at once on areas of their own. The
+ * archive needs `memcpy` and nothing else: a program without a C library can use it by bringing that one function.
  */
 #ifndef MARNIPODE_H
 #define MARNIPODE_H
@@ -25,11 +29,49 @@
 extern "C" {
 #endif
 
-/* The longest interval or horizon that can be asked about, and what a cell by amount holds where there is no time. */
+/* The version of this header and its archive; as a number, 1.2.3 is 10203. CHANGELOG.md says what a new one changes. */
+#define MARNIPODE_VERSION "1.0.0"
+#define MARNIPODE_VERSION_NUMBER 10000
+
+/* The most modes, rows and fixed tasks of a sheet, and the most bytes of its label. */
+#define MARNIPODE_MOST_MODES 8
+#define MARNIPODE_MOST_ROWS 32
+#define MARNIPODE_MOST_TASKS 16
+#define MARNIPODE_LONGEST_LABEL 32
+
+/* The highest speed of a sheet, in rpm; its longest time, which is also the longest interval or horizon that can be asked about. */
+#define MARNIPODE_HIGHEST_SPEED 20000
 #define MARNIPODE_LONGEST_TIME UINT32_C(65535)
+
+/* The largest amount that can be asked about, and what a cell by amount holds where there is no time. */
+#define MARNIPODE_LARGEST_AMOUNT UINT32_C(65536)
 #define MARNIPODE_NO_TIME UINT32_C(4294967295)
 
-/* What kind of field the reader found. */
+/* No call takes more stack than this, in bytes, with all that it calls. */
+#define MARNIPODE_MOST_STACK 8192
+
+/*
+ * Each refusal. README.md says what to do about it, docs/FORMAT.md what breaks the rule of this number, in which order the
+ * rules are tried, and where they are defined and proved.
+ */
+enum {
+    MARNIPODE_REFUSED_CUT_OFF = 1,             /* the file stops where a field must start or inside a field */
+    MARNIPODE_REFUSED_UNKNOWN_TAG = 2,         /* a tag that no field has */
+    MARNIPODE_REFUSED_OUT_OF_ORDER = 3,        /* fields out of order, a second label, or a required kind left out */
+    MARNIPODE_REFUSED_BYTES_BEHIND_END = 4,    /* bytes behind the end field */
+    MARNIPODE_REFUSED_WRONG_LENGTH = 5,        /* a length that does not fit the tag, or a row's follower set */
+    MARNIPODE_REFUSED_TOO_MANY = 6,            /* a mode, row or fixed task more than a sheet may have */
+    MARNIPODE_REFUSED_OUT_OF_RANGE = 7,        /* a number or a byte of the label out of range */
+    MARNIPODE_REFUSED_NOT_RISING = 8,          /* speeds that do not rise, or a row above the last boundary */
+    MARNIPODE_REFUSED_UNKNOWN_FOLLOWER = 9,    /* a follower that is no row of the sheet */
+    MARNIPODE_REFUSED_SHORT_GAP = 10,          /* a gap shorter than the deadline of its row */
+    MARNIPODE_REFUSED_QUESTION = 11,           /* an interval, horizon or amount out of range */
+    MARNIPODE_REFUSED_FEW_CELLS = 12,          /* fewer cells than the call uses */
+    MARNIPODE_REFUSED_SHORT_WITNESS_AREA = 13, /* a witness with more rows than its area has bytes */
+    MARNIPODE_REFUSED_NEVER_REACHED = 14       /* no sequence reaches the amount by MARNIPODE_LONGEST_TIME */
+};
+
+/* What kind of field the reader found: its tag, or the first of the skipped tags for any of them; 0 in a refusal. */
 enum {
     MARNIPODE_NO_FIELD = 0,
     MARNIPODE_LABEL = 1,
@@ -37,7 +79,7 @@ enum {
     MARNIPODE_ROW = 3,
     MARNIPODE_TASK = 4,
     MARNIPODE_END = 5,
-    MARNIPODE_SKIPPED = 6
+    MARNIPODE_SKIPPED = 128
 };
 
 /* How many modes, rows and fixed tasks an accepted sheet has. */
@@ -49,7 +91,7 @@ typedef struct {
     size_t tasks;
 } marnipode_judge_answer;
 
-/* Where a sheet's label stands in its bytes; nowhere, with size 0, where the sheet is refused. */
+/* Where a sheet's label stands in its bytes, and how many it has. Of a refused sheet both are 0. */
 typedef struct {
     size_t start;
     size_t size;
@@ -104,10 +146,13 @@ marnipode_label_answer marnipode_label(const uint8_t *sheet, size_t size);
 marnipode_field_answer marnipode_field_at(const uint8_t *sheet, size_t size, size_t at);
 
 /*
- * The calls below want cells: with n rows, n times (interval + 1), n times (horizon + 1), or for `marnipode_shortest` n times
- * the amount. Fewer give refusal 12, more are left as they were. By interval, the cell at s times n + k then holds the most
- * work of a sequence from row k that ends by s. By amount, the cell at (a - 1) times n + k holds the least end time of a
- * sequence from row k with at least the work a, or MARNIPODE_NO_TIME.
+ * The calls below want cells. With n rows they use n times (interval + 1), n times (horizon + 1), or, for `marnipode_shortest`, n
+ * times the amount; fewer give refusal 12, more are left as they were. They are used in lines of n, a cell for each row:
+ *
+ *   - by interval, the cell at s times n + k then holds the most work of a sequence from row k that ends by s, 0 where none ends
+ *     in time. The demand at s is the largest cell of line s;
+ *   - by amount, the cell at (a - 1) times n + k holds the least end time of a sequence from row k with at least the work a, or
+ *     MARNIPODE_NO_TIME: a time above MARNIPODE_LONGEST_TIME counts as none, here and for refusal 14.
  */
 
 /*
@@ -120,10 +165,13 @@ marnipode_demand_answer marnipode_demand(const uint8_t *sheet, size_t size, uint
 /* The margin at an interval: what demand and fixed tasks leave of it. Cells by interval. */
 marnipode_margin_answer marnipode_margin(const uint8_t *sheet, size_t size, uint64_t interval, uint32_t *cells, size_t cell_count);
 
-/* The shortest interval in which an amount, 1 to 65,536, can be asked for; refusal 14 where there is none. Cells by amount. */
+/* The shortest interval in which an amount, 1 to MARNIPODE_LARGEST_AMOUNT, can be asked for; refusal 14 where there is none. Cells by amount. */
 marnipode_shortest_answer marnipode_shortest(const uint8_t *sheet, size_t size, uint64_t amount, uint32_t *cells, size_t cell_count);
 
-/* The verdict from 1 up to a horizon, by way of either table. Both answer the same; all cells are filled, also after an overrun. */
+/*
+ * The verdict from 1 up to a horizon, by way of either table. It says nothing about intervals beyond the horizon. Both answer the
+ * same; all cells are filled, also after an overrun.
+ */
 marnipode_verdict_answer marnipode_verdict_by_interval(const uint8_t *sheet, size_t size, uint64_t horizon, uint32_t *cells,
                                                        size_t cell_count);
 marnipode_verdict_answer marnipode_verdict_by_amount(const uint8_t *sheet, size_t size, uint64_t horizon, uint32_t *cells,

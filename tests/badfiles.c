@@ -1,4 +1,4 @@
-/* Compares the judge's refusals of bad files in bulk, which are made here, with those that document 01 gives them. */
+/* Compares the judge's refusals of bad files in bulk, which are made here, with those that the rules of docs/FORMAT.md give them. */
 #include <stdio.h>
 #include <stdlib.h>
 #include <string.h>

@@ -1,11 +1,11 @@
-/* Where the fields of a file stand by their headers alone, as document 01 lays them out. The library is not asked. */
+/* Where the fields of a file stand by their headers alone, as docs/FORMAT.md lays them out. The library is not asked. */
 #ifndef TESTS_FIELDS_H
 #define TESTS_FIELDS_H
 
 #include <stddef.h>
 #include <stdint.h>
 
-/* Tags of document 01. */
+/* The tags; SKIPPED_TAG is the first of those that are skipped. */
 enum { LABEL_TAG = 1, MODE_TAG = 2, ROW_TAG = 3, TASK_TAG = 4, END_TAG = 5, SKIPPED_TAG = 128 };
 
 /* How many fields of a tag stand before the end field, or before the file stops. */

@@ -1,4 +1,4 @@
-/* The bytes of a plan's file, as document 01 lays them out. */
+/* The bytes of a plan's file, as docs/FORMAT.md lays them out. */
 #include "fields.h"
 #include "plans.h"
 

@@ -35,7 +35,7 @@ typedef struct {
     counts counted;
 } search;
 
-/* What the fixed tasks of a plan need up to an interval, as document 01 has it. */
+/* What the fixed tasks of a plan need up to an interval, as docs/FORMAT.md has it. */
 static int64_t fixed_demand(const plan *made, int64_t interval)
 {
     int64_t needed = 0;

@@ -15,7 +15,7 @@ enum { HORIZON = 9, LARGEST = 9, MOST_JOBS = 16 };
 /* No sequence reaches the amount. */
 #define NEVER UINT32_MAX
 
-/* What the sequences show: cells by interval and by amount, as document 01 lays them out; demands, witnesses, shortest times. */
+/* What the sequences show: cells by interval and by amount, as docs/FORMAT.md lays them out; demands, witnesses, shortest times. */
 typedef struct {
     uint32_t best[MOST_ROWS * (HORIZON + 1)];
     uint32_t least[MOST_ROWS * LARGEST];

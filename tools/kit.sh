@@ -1,4 +1,4 @@
-# What ./desk, tests/run, examples/c/run and bench/run share: messages, whether a built file is older than its sources, and how code for x86-64 is compiled and started here.
+# What ./desk, tools/install, tests/run, the examples, bench/run and the gate share: messages, how things are built one call at a time, and how code for x86-64 is compiled and started here.
 # The script that reads this file has set `home`, the repository's folder, and `name`, its own name in messages.
 
 say() {
@@ -15,9 +15,89 @@ need_kit() {
     command -v rt >/dev/null || stop "rt is not on the PATH; it comes with the Rattle kit, which proves and builds what is run here"
 }
 
+# The version of the library, which the header has.
+version() {
+    sed -n 's/^#define MARNIPODE_VERSION "\(.*\)"$/\1/p' "$home/include/marnipode.h"
+}
+
 # Whether a file stands, and nothing that it could be made of is newer.
 is_built() {
     [ -e "$1" ] && [ -z "$(find "$home/crates" "$home/crates.txt" -newer "$1" -print | head -n 1)" ]
+}
+
+# One build at a time in a checkout: all of rt's work stands in target/, and two of them would spoil it for each other. The lock's file
+# is not in target/, which rt may remove. What rt has started holds the lock too, so it is free once all of that has ended.
+lock_target() {
+    local file=$home/target.lock
+    [ ! -e "$home/target" ] || [ -w "$home/target" ] || stop "nothing can be built here: $home/target may not be written"
+    (exec 9>>"$file") 2>/dev/null || stop "nothing can be built here: $home may not be written; copy the clone to a folder of your own"
+    exec 9>>"$file"
+    if flock --nonblock 9; then return; fi
+    say "another call is building here; waiting for it"
+    flock 9
+}
+
+free_target() {
+    exec 9>&-
+}
+
+# How many crates of the repository one is made of, itself among them.
+count_crates() {
+    awk -v crate="$1" '
+        function reach(name, words, n, i) {
+            if (!(name in needs) || name in seen) return
+            seen[name]; count++
+            n = split(needs[name], words, " ")
+            for (i = 1; i <= n; i++) reach(words[i])
+        }
+        { sub(/#.*/, "") }
+        /:/ { name = $1; sub(/:.*/, "", name); sub(/^[^:]*:/, ""); needs[name] = $0 }
+        END { reach(crate); print count }' "$home/crates.txt"
+}
+
+# Passes on what rt says for people as it comes, each proved crate with how many are to come after it.
+tell_progress() {
+    local left=$1 line
+    while IFS= read -r line; do
+        case $line in
+        'rt: '*' proved (unchanged'*) left=$((left - 1)) ;;
+        'rt: '*' proved ('*)
+            left=$((left - 1))
+            say "${line#rt: }, $left to come"
+            ;;
+        'rt: '*) say "${line#rt: }" ;;
+        esac
+    done
+}
+
+# Ends all that a build has started, waits a little for the last of it, and then ends this script by the same signal.
+end_build() {
+    trap - INT TERM HUP
+    kill -TERM -- "-$started" 2>/dev/null || true
+    wait "$started" 2>/dev/null || true
+    for _ in {1..50}; do
+        kill -0 -- "-$started" 2>/dev/null || break
+        sleep 0.1
+    done
+    say "ended before it was built; the next call goes on from here"
+    kill -s "$1" $$
+}
+
+# Runs rt in a process group of its own, since what it starts does not heed a Ctrl-C by itself.
+run_rt() {
+    local crates ended=0
+    crates=$(count_crates "${!#}")
+    say "building: rt $* proves $crates crates, which takes some minutes where nothing is proved yet"
+    set -m
+    { (cd "$home" && rt "$@") 2>&1 | tell_progress "$crates"; } </dev/null &
+    started=$!
+    set +m
+    trap 'end_build INT' INT
+    trap 'end_build TERM' TERM
+    trap 'end_build HUP' HUP
+    wait "$started" || ended=$?
+    trap - INT TERM HUP
+    return "$ended"
 }
 
 # Makes a file of target/ by a command of rt unless it stands. An edit elsewhere leaves the file as it was, so its time is set here.
@@ -25,10 +105,13 @@ build() {
     local file=$1 began=$SECONDS
     shift
     if is_built "$file"; then return; fi
-    say "building: rt $* proves it and what it stands on"
-    (cd "$home" && rt "$@") 2>&1 | sed -u -n "s|^rt: |$name: |p" >&2 || stop "rt $* failed; target/log has what it said"
-    touch "$file"
-    say "built in $((SECONDS - began)) s"
+    lock_target
+    if ! is_built "$file"; then
+        run_rt "$@" || stop "rt $* failed; target/log has what it said"
+        touch "$file"
+        say "built in $((SECONDS - began)) s"
+    fi
+    free_target
 }
 
 # The kit's tools for this processor, and its emulator of x86-64 where the processor is another one.
@@ -38,18 +121,38 @@ find_tools() {
     [ -x "$emulator" ] || emulator=
 }
 
-# A C compiler for x86-64, and its disassembler; Debian's are installed where there are none. On another processor they are the
-# cross compiler's, and what is linked is static, as the emulator wants it.
-find_compiler() {
-    local packages=(gcc libc6-dev)
+# The commands by which C and C++ are compiled for x86-64, and the disassembler. On another processor they are the cross compiler's, and
+# what is linked is static, as the emulator wants it.
+name_compilers() {
     compiler=(cc)
+    compiler_of_cpp=(c++)
     objdump=objdump
     if [ -n "$emulator" ]; then
-        packages=(gcc-x86-64-linux-gnu)
         compiler=(x86_64-linux-gnu-gcc -static)
+        compiler_of_cpp=(x86_64-linux-gnu-g++ -static)
         objdump=x86_64-linux-gnu-objdump
     fi
-    if command -v "${compiler[0]}" >/dev/null; then return; fi
-    say "installing ${packages[*]} for ${compiler[0]}, the C compiler for x86-64"
-    apt-get update -qq >/dev/null && apt-get install -y -qq "${packages[@]}" >/dev/null || stop "there is no ${compiler[0]}, and it could not be installed"
+}
+
+# Debian's packages with a command.
+packages_of() {
+    case $1 in
+    cc) echo gcc libc6-dev ;;
+    c++) echo g++ ;;
+    x86_64-linux-gnu-gcc) echo gcc-x86-64-linux-gnu ;;
+    x86_64-linux-gnu-g++) echo g++-x86-64-linux-gnu ;;
+    objdump) echo binutils ;;
+    x86_64-linux-gnu-objdump) echo binutils-x86-64-linux-gnu ;;
+    *) echo "$1" ;;
+    esac
+}
+
+# Stops where a command is missing. Only the gate installs anything.
+need() {
+    command -v "$1" >/dev/null || stop "there is no $1; Debian has it in: $(packages_of "$1")"
+}
+
+find_compiler() {
+    name_compilers
+    need "${compiler[0]}"
 }

@@ -25,7 +25,7 @@ tasks bytes = tasksOf (judged bytes .sheet)
 abbrev pub rows : List ℕ → ℕ
 rows bytes = judged bytes .sheet .tally .rows
 
--- how every call begins: the sheet's own refusal, then 11 where the number asked for is out of range, then 12 where the cells are too few
+-- how every call begins: the sheet's own refusal, then rule 11 where the number asked for is out of range, then rule 12 where the cells are too few
 abbrev pub Begins : Answer → Bool → Bool → (ℕ → ℕ → Type 0) → Type 0 → Type 0
 Begins (sheet-case.Refused number place) outOfRange tooFew Refuses Answers = Refuses number place
 Begins sheet-case.Accepted true tooFew Refuses Answers = Refuses 11 0
@@ -43,7 +43,7 @@ FilledByInterval bytes count old new = Filled (rows bytes) (ByInterval (graph by
 abbrev pub FilledByAmount : List ℕ → ℕ → List ℕ → List ℕ → Type 0
 FilledByAmount bytes count old new = Filled (rows bytes) (ByAmount (graph bytes)) old new (lines bytes count)
 
--- an amount that is asked for is from 1 to one more than the longest time
+-- rule 11 of an amount: it is from 1 to one more than the longest time
 abbrev pub badAmount : ℕ → Bool
 badAmount b = eqb b 0 or ltb (longestTime + 1) b
 

@@ -25,7 +25,7 @@ pub fn begin_amount(bytes: &[u8], amount: u64, room: usize) -> Judged
     begin(bytes, amount_lines(amount), room)
 }
 
-// How many lines an interval takes, none where it is out of range.
+// How many lines an interval takes, none where rule 11 refuses it.
 fn interval_lines(interval: u64) -> usize
     ensures { λ r. ⌜ r ≡ pick (ltb longestTime interval) 0 (interval + 1) ⌝ }
     ensures { λ r. ⌜ r ≤ longestTime + 1 ⌝ }
@@ -36,7 +36,7 @@ fn interval_lines(interval: u64) -> usize
     interval as usize + 1
 }
 
-// How many lines an amount takes, none where it is out of range.
+// How many lines an amount takes, none where rule 11 refuses it.
 fn amount_lines(amount: u64) -> usize
     ensures { λ r. ⌜ r ≡ pick (badAmount amount) 0 amount ⌝ }
     ensures { λ r. ⌜ r ≤ longestTime + 1 ⌝ }
@@ -47,7 +47,7 @@ fn amount_lines(amount: u64) -> usize
     amount as usize
 }
 
-// The sheet where the call may go on, else the first of the refusals 1 to 12. No lines say that the number asked for is out of range.
+// The sheet where the call may go on, else the first of the refusals 1 to 12: the sheet's own, rule 11 where there are no lines, rule 12 where the room is too small.
 fn begin(bytes: &[u8], lines: usize, room: usize) -> Judged
     requires { ⌜ lines ≤ longestTime + 1 ⌝ }
     ensures { λ r. ⌜ Begun (now (bytes .entry)) (eqb lines 0) lines room r ⌝ }
@@ -79,7 +79,7 @@ fn begin(bytes: &[u8], lines: usize, room: usize) -> Judged
     }
 }
 
-// From 11 on a refusal's place is 0.
+// From rule 11 on a refusal's place is 0.
 fn refused(number: u8) -> Answer
     ensures { λ r. ⌜ r ≡ Refused number 0 ⌝ }
 {

@@ -1,4 +1,4 @@
--- Document 01's numbers for each case of an answer: the refusal's number and place, 0 where there is none, and the values, 0 in a refusal.
+-- The numbers that each case of an answer stands for: the refusal's number and place, 0 where there is none, and the values, 0 in a refusal.
 use Prim.Native.Nat.{ℕ}
 use lib.IntN.{ℤ, pos}
 use Rattle.desk.specs.declared.DemandAnswer as demand

@@ -29,7 +29,7 @@ abbrev pub DemandRefuses : List ℕ → List ℕ → demand.DemandAnswer → Lis
 DemandRefuses cells area answer cells′ area′ number place =
     (answer ≡ demand-case.Refused number place) × (cells′ ≡ cells) × (area′ ≡ area)
 
--- the amount and the witness as answered: the witness's rows stand at the front of the area, or it is 13 with the area untouched where they do not fit
+-- the amount and the witness as answered: the witness's rows stand at the front of the area, or rule 13 is broken, with the area untouched, where they do not fit
 abbrev pub DemandGives : List ℕ → demand.DemandAnswer → List ℕ → ℕ → List ℕ → Type 0
 DemandGives area answer area′ amount witness =
     Either (ltb (length area) (length witness))
@@ -65,7 +65,7 @@ MarginCall bytes t cells answer cells′ =
 abbrev pub ShortestRefuses : List ℕ → shortest.ShortestAnswer → List ℕ → ℕ → ℕ → Type 0
 ShortestRefuses cells answer cells′ number place = (answer ≡ shortest-case.Refused number place) × (cells′ ≡ cells)
 
--- the time as answered, or 14 where no sequence reaches the amount
+-- the time as answered, or rule 14 is broken where no sequence reaches the amount
 abbrev pub ShortestGives : shortest.ShortestAnswer → ℕ → Type 0
 ShortestGives answer time = Either (eqb time noTime) (answer ≡ shortest-case.Refused 14 0) (answer ≡ shortest-case.Found time)
 

@@ -28,7 +28,7 @@ ghost use Rattle.beginning.specs.Beginning.{lines};
 ghost use Rattle.desk.specs.Calls.{DemandAnswers, MarginAnswers, ShortestAnswers, VerdictAnswers, verdictAnswer};
 ghost use Rattle.desk.specs.WhichTable.{filledBy};
 
-// The table by interval, then the largest cell of its last line and the witness, which is counted before it is written.
+// The table by interval, then the largest cell of its last line and the witness, which is counted before it is written: rule 13.
 pub(crate) fn demand_in(
     bytes: &[u8],
     sheet: Sheet,
@@ -75,7 +75,7 @@ pub(crate) fn margin_in(bytes: &[u8], sheet: Sheet, t: usize, cells: &mut [u32])
     MarginAnswer::Found { margin: margin }
 }
 
-// The table by amount, then the smallest time of its last line.
+// The table by amount, then the smallest time of its last line; rule 14 where it has none.
 pub(crate) fn shortest_in(
     bytes: &[u8],
     sheet: Sheet,

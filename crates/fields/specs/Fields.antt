@@ -28,7 +28,7 @@ fields =
 unfoldable pub lineOf : ℕ → Line
 lineOf tag = getD (noLine ∷ fields) tag noLine
 
--- tags 0 and 6 to 127 are refused, 128 to 255 are skipped
+-- tags 0 and 6 to 127 are refused, by rule 2; 128 to 255 are skipped
 abbrev pub kindOf : ℕ → Kind
 kindOf tag =
     pick (eqb tag 1) LabelField

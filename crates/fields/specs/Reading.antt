@@ -53,7 +53,7 @@ taskAt bytes start =
       deadline = ticksAt bytes (start + 4);
     }
 
--- the field at a place: 1 for a header that is cut off, then 2, then 1 for content that is cut off
+-- the field at a place: rule 1 for a header that is cut off, then rule 2, then rule 1 for content that is cut off
 unfoldable pub fieldAt : List ℕ → ℕ → Step
 fieldAt bytes at =
     judgedBy (λ n. Refusal n at)

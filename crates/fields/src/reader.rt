@@ -22,7 +22,7 @@ pub enum Step {
     },
 }
 
-// The field that starts at a place. It judges only rules 1 and 2.
+// The field that starts at a place. It tries rule 1 and rule 2 alone.
 pub fn field_at(bytes: &[u8], at: usize) -> Step
     ensures { λ r. ⌜ r ≡ fieldAt (now (bytes .entry)) at ⌝ }
 {

@@ -79,7 +79,7 @@ fn no_line() -> Line
     }
 }
 
-// The kind of field that a tag byte begins.
+// The kind of field that a tag byte begins; rule 2 refuses what begins none.
 pub fn kind_of(tag: u8) -> Kind
     ensures { λ r. ⌜ r ≡ kindOf tag ⌝ }
 {

@@ -1,4 +1,4 @@
--- Each answer of the library as the struct of numbers that C is given: those that document 01 gives it, in the struct's fields.
+-- Each answer of the library as the struct that C is given: its numbers in the struct's fields.
 use Prim.Native.Nat.{ℕ}
 use Rattle.sheet.specs.Judging.{numberOf, placeOf}
 use Rattle.sheet.specs.declared.Judged.{Judged}
@@ -35,7 +35,7 @@ flatJudged judged =
 abbrev pub flatLabel : Judged → LabelForC
 flatLabel judged = record { start = judged .sheet .label .start; size = judged .sheet .label .size }
 
--- the kind of a field: its tag where it is known, 6 where it is skipped
+-- the kind of a field: its tag where it is known, the first of the skipped tags where it is skipped
 abbrev pub kindNumber : Kind → ℕ
 kindNumber RefusedTag = 0
 kindNumber LabelField = 1
@@ -43,7 +43,7 @@ kindNumber ModeField = 2
 kindNumber RowField = 3
 kindNumber TaskField = 4
 kindNumber EndField = 5
-kindNumber SkippedField = 6
+kindNumber SkippedField = 128
 
 -- a step of the field reader
 abbrev pub flatStep : Step → FieldForC

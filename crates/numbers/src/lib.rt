@@ -128,7 +128,7 @@ pub fn field_numbers(step: Step) -> FieldForC
     }
 }
 
-// A known kind has its tag.
+// A known kind has its tag, a skipped one the first tag that is skipped.
 fn kind_number(kind: Kind) -> u8
     ensures { λ r. ⌜ r ≡ kindNumber kind ⌝ }
 {
@@ -139,7 +139,7 @@ fn kind_number(kind: Kind) -> u8
         Kind::RowField => 3,
         Kind::TaskField => 4,
         Kind::EndField => 5,
-        Kind::SkippedField => 6,
+        Kind::SkippedField => 128,
     }
 }
 

@@ -1,4 +1,4 @@
--- The bytes of the sheets A and B of document 01, field by field.
+-- The bytes of the sheets A and B, field by field; sheets/a.sheet and sheets/b.sheet are the same.
 use Prim.Native.Nat.{ℕ}
 use mathlib.Core.List.{List, [], _∷_, _++_}
 

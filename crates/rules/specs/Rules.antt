@@ -18,14 +18,14 @@ use Rattle.fields.specs.declared.values.Row.{Row}
 use Rattle.fields.specs.declared.values.Task.{Task}
 use Rattle.fields.specs.declared.values.Tally.{Tally}
 
--- 3: a tag below the last known one, a second field of a kind that stands once, or a required kind passed over
+-- rule 3: a tag below the last known one, a second field of a kind that stands once, or a required kind passed over
 unfoldable pub outOfOrder : ℕ → ℕ → Bool
 outOfOrder last tag =
     pick (ltb tag last) true
     (pick (eqb tag last) (leb (lineOf tag .most) 1)
     (anyFrom (λ passed. lineOf passed .required) (last + 1) (tag - (last + 1))))
 
--- 5: a length that the tag's line does not allow
+-- rule 5: a length that the tag's line does not allow
 unfoldable pub wrongLength : ℕ → ℕ → Bool
 wrongLength tag size = ltb size (lineOf tag .shortest) or ltb (lineOf tag .longest) size
 
@@ -33,23 +33,23 @@ wrongLength tag size = ltb size (lineOf tag .shortest) or ltb (lineOf tag .longe
 abbrev pub followerCount : ℕ → ℕ
 followerCount followers = below followers width
 
--- 5: a row's length that is not its head and one gap for each row of its follower set
+-- rule 5: a row's length that is not its head and one gap for each row of its follower set
 unfoldable pub unlikeSet : ℕ → ℕ → Bool
 unlikeSet size followers = not (eqb size (headSize + gapSize * followerCount followers))
 
--- 6: as many of the kind as a sheet may have
+-- rule 6: as many of the kind as a sheet may have
 unfoldable pub full : ℕ → ℕ → Bool
 full tag count = leb (lineOf tag .most) count
 
--- 7: a byte outside 0x20 to 0x7E
+-- rule 7: a byte of a label outside 0x20 to 0x7E
 unfoldable pub badByte : ℕ → Bool
 badByte byte = ltb byte 0x20 or ltb 0x7E byte
 
--- 7: a speed of 0 or above the highest
+-- rule 7: a speed of 0 or above the highest
 unfoldable pub badRpm : Rpm → Bool
 badRpm speed = eqb (speed .0) 0 or ltb rpmLimit (speed .0)
 
--- 7: a length, deadline or period of 0
+-- rule 7: a length, deadline or period of 0
 abbrev pub noTicks : Ticks → Bool
 noTicks time = eqb (time .0) 0
 
@@ -58,11 +58,11 @@ abbrev pub isAt : Next → Bool
 isAt (At row) = true
 isAt Nothing = false
 
--- 9 of one set: it has a row at or after the number of rows
+-- rule 9 of one set: it has a row at or after the number of rows
 unfoldable pub unknownIn : ℕ → ℕ → Bool
 unknownIn followers rows = isAt (nextIn (width - rows) followers rows)
 
--- 9: one of the rows names a row that does not exist
+-- rule 9: one of the rows names a row that does not exist
 unfoldable pub unknownFollower : List Row → ℕ → Bool
 unknownFollower rows count = anyFrom (λ k. unknownIn (getD rows k noRow .followers) count) 0 count
 
@@ -74,7 +74,7 @@ commonRules tag last wrong count =
     ∷ 6 when (full tag count)
     ∷ []
 
--- the rules of a mode's numbers
+-- the rules of a mode's numbers; rule 8: a boundary that is not above the one before
 unfoldable pub modeRules : Tally → Mode → List Rule
 modeRules tally mode =
     7 when (badRpm (mode .boundary))
@@ -83,6 +83,7 @@ modeRules tally mode =
     ∷ []
 
 -- the rules of a row's numbers, where it is known whether a gap is zero and whether one is below the deadline
+-- rule 8: a speed that is not above the one before, or is above the last boundary; rule 10: a gap below the deadline
 unfoldable pub rowRules : Tally → Row → Bool → Bool → List Rule
 rowRules tally row zero short =
     7 when (badRpm (row .speed))

@@ -1,4 +1,4 @@
-// The rules of document 01 as functions on the tally and on values: a test for each, and for each list of rules the number of the first that is broken.
+// The rules 3 and 5 to 10 as functions on the tally and on values: a test for each, and for each list of rules the number of the first that is broken.
 use fields::table::line_of;
 use fields::units::Rpm;
 use fields::values::Mode;
@@ -29,7 +29,7 @@ pub fn common_number(tag: usize, last: usize, wrong: bool, count: usize) -> u8
     0
 }
 
-// The rules of a mode's numbers.
+// The rules of a mode's numbers. Rule 8: a boundary that is not above the one before.
 pub fn mode_number(tally: Tally, mode: Mode) -> u8
     ensures { λ r. ⌜ r ≡ firstBroken (modeRules tally mode) ⌝ }
 {
@@ -48,6 +48,7 @@ pub fn mode_number(tally: Tally, mode: Mode) -> u8
 }
 
 // The rules of a row's numbers; of its gaps it is told whether one is zero and whether one is below the deadline.
+// Rule 8: a speed that is not above the one before, or is above the last boundary. Rule 10: a gap below the deadline.
 pub fn row_number(tally: Tally, row: Row, zero: bool, short: bool) -> u8
     ensures { λ r. ⌜ r ≡ firstBroken (rowRules tally row zero short) ⌝ }
 {
@@ -74,7 +75,7 @@ pub fn row_number(tally: Tally, row: Row, zero: bool, short: bool) -> u8
     0
 }
 
-// The rules of a fixed task's numbers.
+// The rules of a fixed task's numbers, which are all rule 7.
 pub fn task_number(task: Task) -> u8
     ensures { λ r. ⌜ r ≡ firstBroken (taskRules task) ⌝ }
 {

@@ -12,15 +12,15 @@ use Rattle.fields.specs.declared.units.Ticks.{Ticks}
 use Rattle.fields.specs.declared.values.Row.{Row}
 use Rattle.fields.specs.declared.values.Tally.{Tally}
 
--- 5 of a row whose content starts at a place: the table and its own set decide
+-- rule 5 of a row whose content starts at a place: the table and its own set decide
 unfoldable pub wrongRow : List ℕ → ℕ → ℕ → Bool
 wrongRow bytes start size = wrongLength 3 size or unlikeSet size (longAt bytes (start + 4))
 
--- 7: a label with a byte outside 0x20 to 0x7E
+-- rule 7: a label with a byte outside 0x20 to 0x7E
 unfoldable pub badText : List ℕ → ℕ → ℕ → Bool
 badText bytes start size = anyFrom (λ at. badByte (getD bytes at 0)) start size
 
--- 7 and 10: of the gaps from a place on, one is shorter than a bound
+-- rule 7 and rule 10: of the gaps from a place on, one is shorter than a bound
 unfoldable pub gapShorter : List ℕ → ℕ → ℕ → Ticks → Bool
 gapShorter bytes place count bound = anyFrom (λ k. ltb (wordAt bytes (place + gapSize * k)) (bound .0)) 0 count
 

@@ -21,7 +21,7 @@ use Rattle.sheet.specs.declared.Answer.{Answer}
 use Rattle.sheet.specs.declared.Answer.the-variants.{Accepted, Refused}
 use Rattle.sheet.specs.declared.Judged.{Judged}
 
--- document 01's number of an answer, 0 where the sheet is accepted
+-- the number of the rule that an answer refuses by, 0 where the sheet is accepted
 abbrev pub numberOf : Answer → ℕ
 numberOf Accepted = 0
 numberOf (Refused number place) = number
@@ -35,7 +35,7 @@ placeOf (Refused number place) = place
 unfoldable pub refusal : ℕ → ℕ → Judged
 refusal number place = record { answer = Refused number place; sheet = emptySheet }
 
--- the first rules of a field of each kind: its place in the order, its length, its count; label and end are not counted, since 3 and 4 keep a second one out, and a refused tag is refused by the reader already
+-- the first rules of a field of each kind: its place in the order, its length, its count; label and end are not counted, since rules 3 and 4 keep a second one out, and a refused tag is refused by the reader already, by rule 2
 unfoldable pub headRules : List ℕ → Tally → Kind → ℕ → ℕ → List Rule
 headRules bytes tally RefusedTag start size = 2 when true ∷ []
 headRules bytes tally LabelField start size = commonRules 1 (tally .last) (wrongLength 1 size) 0
@@ -72,7 +72,7 @@ withField bytes sheet SkippedField start size = sheet
 abbrev pub checked : ℕ → List Rule → Judged → Judged
 checked place rules ok = judgedBy (λ n. refusal n place) rules ok
 
--- the end of a sheet whose end field keeps these rules: 9 at the field, then 4 at the first byte after it
+-- the end of a sheet whose end field keeps these rules: rule 9 at the field, then rule 4 at the first byte after it
 unfoldable pub endJudged : List ℕ → Sheet → ℕ → ℕ → Judged
 endJudged bytes sheet at next =
     checked at (9 when (unknownFollower (sheet .rows) (sheet .tally .rows)) ∷ [])

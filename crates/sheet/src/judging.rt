@@ -76,7 +76,7 @@ fn own_number(bytes: &[u8], tally: Tally, kind: Kind, start: usize, size: usize)
     }
 }
 
-// The rule of a label's bytes.
+// Rule 7 of a label's bytes.
 fn text_number(bytes: &[u8], start: usize, size: usize) -> u8
     requires { ⌜ start + size ≤ length (now bytes) ⌝ }
     ensures { λ r. ⌜ r ≡ firstBroken (textRules (now (bytes .entry)) start size) ⌝ }
@@ -87,7 +87,7 @@ fn text_number(bytes: &[u8], start: usize, size: usize) -> u8
     0
 }
 
-// The end of the sheet, where the end field at `at` breaks no rule by itself and the next field would start at `next`.
+// The end of the sheet, where the end field at `at` breaks no rule by itself and the next field would start at `next`: rule 9, then rule 4.
 pub(crate) fn judge_end(bytes: &[u8], sheet: Sheet, at: usize, next: usize) -> Judged
     ensures { λ r. ⌜ r ≡ endJudged (now (bytes .entry)) sheet at next ⌝ }
 {
@@ -176,7 +176,7 @@ fn row_gap_number(bytes: &[u8], tally: Tally, row: Row) -> u8
     row_number(tally, row, zero, short)
 }
 
-// Whether one of `count` gaps from a place on is shorter than a bound.
+// Rule 7 and rule 10 of gaps: whether one of `count` from a place on is shorter than a bound.
 fn gap_shorter(bytes: &[u8], place: usize, count: usize, bound: Ticks) -> bool
     requires { ⌜ place + gapSize * count ≤ length (now bytes) ⌝ }
     ensures { λ r. ⌜ r ≡ gapShorter (now (bytes .entry)) place count bound ⌝ }

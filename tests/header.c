@@ -1,0 +1,148 @@
+/* Holds the library to what the header says by itself: the limits, null pointers for no elements, what stands for no time. */
+#include <stdbool.h>
+#include <stdio.h>
+#include <stdlib.h>
+#include <string.h>
+
+#include "marnipode.h"
+#include "score.h"
+
+/* A sheet as it is written: each row has the same deadline, 1, and follows itself after 1; all times are 1. */
+typedef struct {
+    size_t label;
+    size_t modes;
+    size_t rows;
+    size_t tasks;
+    unsigned top_speed;
+} outline;
+
+static uint8_t sheet[4096];
+static size_t size;
+
+static score counted;
+
+static void compare(const char *what, bool is_right)
+{
+    counted.compared++;
+    if (is_right)
+        return;
+    counted.wrong++;
+    printf("%s is not as the header says\n", what);
+}
+
+static void write_bytes(const uint8_t *bytes, size_t count)
+{
+    memcpy(sheet + size, bytes, count);
+    size += count;
+}
+
+/* Speeds end at the top speed and rise by one. */
+static unsigned speed_of(const outline *made, size_t number, size_t count)
+{
+    return made->top_speed - (unsigned)(count - 1 - number);
+}
+
+static void write_outline(const outline *made)
+{
+    size = 0;
+    write_bytes((uint8_t[]){MARNIPODE_LABEL, 0, (uint8_t)made->label}, 3);
+    memset(sheet + size, 'L', made->label);
+    size += made->label;
+    for (size_t i = 0; i < made->modes; i++) {
+        unsigned speed = speed_of(made, i, made->modes);
+        write_bytes((uint8_t[]){MARNIPODE_MODE, 0, 4, (uint8_t)(speed >> 8), (uint8_t)speed, 0, 1}, 7);
+    }
+    for (size_t i = 0; i < made->rows; i++) {
+        unsigned speed = speed_of(made, i, made->rows);
+        uint32_t itself = i < 32 ? UINT32_C(1) << i : 1;
+        write_bytes((uint8_t[]){MARNIPODE_ROW, 0, 10, (uint8_t)(speed >> 8), (uint8_t)speed, 0, 1}, 7);
+        write_bytes((uint8_t[]){(uint8_t)(itself >> 24), (uint8_t)(itself >> 16), (uint8_t)(itself >> 8), (uint8_t)itself, 0, 1}, 6);
+    }
+    for (size_t i = 0; i < made->tasks; i++)
+        write_bytes((uint8_t[]){MARNIPODE_TASK, 0, 6, 0, 1, 0, 1, 0, 1}, 9);
+    write_bytes((uint8_t[]){MARNIPODE_END, 0, 0}, 3);
+}
+
+static void compare_refusal(const char *what, outline made, unsigned number)
+{
+    write_outline(&made);
+    compare(what, marnipode_judge(sheet, size).number == number);
+}
+
+static void compare_limits(void)
+{
+    const outline full = {MARNIPODE_LONGEST_LABEL, MARNIPODE_MOST_MODES, MARNIPODE_MOST_ROWS, MARNIPODE_MOST_TASKS,
+                          MARNIPODE_HIGHEST_SPEED};
+    write_outline(&full);
+    marnipode_judge_answer judged = marnipode_judge(sheet, size);
+    compare("the largest sheet", judged.number == 0 && judged.place == 0 && judged.modes == full.modes &&
+                                     judged.rows == full.rows && judged.tasks == full.tasks);
+    compare("the longest label", marnipode_label(sheet, size).size == MARNIPODE_LONGEST_LABEL);
+
+    outline more = full;
+    more.label++;
+    compare_refusal("a longer label", more, MARNIPODE_REFUSED_WRONG_LENGTH);
+    more = full;
+    more.modes++;
+    compare_refusal("a mode too many", more, MARNIPODE_REFUSED_TOO_MANY);
+    more = full;
+    more.rows++;
+    compare_refusal("a row too many", more, MARNIPODE_REFUSED_TOO_MANY);
+    more = full;
+    more.tasks++;
+    compare_refusal("a task too many", more, MARNIPODE_REFUSED_TOO_MANY);
+    more = full;
+    more.top_speed++;
+    compare_refusal("a higher speed", more, MARNIPODE_REFUSED_OUT_OF_RANGE);
+}
+
+/* One row that nothing keeps from following itself, so that the demand at an interval is that interval. */
+static void compare_questions(uint32_t *cells)
+{
+    const size_t count = (size_t)MARNIPODE_LONGEST_TIME + 1;
+    write_outline(&(outline){1, 1, 1, 0, 1});
+    marnipode_demand_answer demand = marnipode_demand(sheet, size, 5, cells, count, NULL, 0);
+    compare("a null witness area", demand.number == MARNIPODE_REFUSED_SHORT_WITNESS_AREA && demand.place == 0);
+    compare("the largest cell of a line", cells[5] == 5);
+    demand = marnipode_demand(sheet, size, 0, cells, 1, NULL, 0);
+    compare("a null witness area for no rows", demand.number == 0 && demand.amount == 0 && demand.count == 0);
+    compare("the longest interval", marnipode_margin(sheet, size, MARNIPODE_LONGEST_TIME, cells, count).number == 0);
+    compare("a longer interval", marnipode_margin(sheet, size, count, cells, count).number == MARNIPODE_REFUSED_QUESTION);
+    compare("few cells", marnipode_margin(sheet, size, 1, cells, 1).number == MARNIPODE_REFUSED_FEW_CELLS);
+    compare("null cells", marnipode_margin(sheet, size, 0, NULL, 0).number == MARNIPODE_REFUSED_FEW_CELLS);
+
+    marnipode_shortest_answer shortest = marnipode_shortest(sheet, size, MARNIPODE_LARGEST_AMOUNT, cells, count);
+    compare("the largest amount", shortest.number == MARNIPODE_REFUSED_NEVER_REACHED && shortest.time == 0);
+    compare("a cell without a time", cells[MARNIPODE_LARGEST_AMOUNT - 1] == MARNIPODE_NO_TIME);
+    compare("a cell with the longest time", cells[MARNIPODE_LARGEST_AMOUNT - 2] == MARNIPODE_LONGEST_TIME);
+    shortest = marnipode_shortest(sheet, size, (uint64_t)MARNIPODE_LARGEST_AMOUNT + 1, cells, count);
+    compare("a larger amount", shortest.number == MARNIPODE_REFUSED_QUESTION);
+}
+
+/* No bytes at all are a sheet that is cut off. */
+static void compare_no_sheet(void)
+{
+    marnipode_judge_answer judged = marnipode_judge(NULL, 0);
+    compare("a null sheet", judged.number == MARNIPODE_REFUSED_CUT_OFF && judged.place == 0 && judged.rows == 0);
+    marnipode_label_answer label = marnipode_label(NULL, 0);
+    compare("the label of a null sheet", label.start == 0 && label.size == 0);
+    marnipode_field_answer field = marnipode_field_at(NULL, 0, 7);
+    compare("a field of a null sheet",
+            field.number == MARNIPODE_REFUSED_CUT_OFF && field.place == 7 && field.kind == MARNIPODE_NO_FIELD);
+    compare("demand of a null sheet", marnipode_demand(NULL, 0, 1, NULL, 0, NULL, 0).number == MARNIPODE_REFUSED_CUT_OFF);
+    compare("margin of a null sheet", marnipode_margin(NULL, 0, 1, NULL, 0).number == MARNIPODE_REFUSED_CUT_OFF);
+    compare("shortest of a null sheet", marnipode_shortest(NULL, 0, 1, NULL, 0).number == MARNIPODE_REFUSED_CUT_OFF);
+    compare("a verdict of a null sheet",
+            marnipode_verdict_by_interval(NULL, 0, 1, NULL, 0).number == MARNIPODE_REFUSED_CUT_OFF &&
+                marnipode_verdict_by_amount(NULL, 0, 1, NULL, 0).number == MARNIPODE_REFUSED_CUT_OFF);
+}
+
+int main(void)
+{
+    static uint32_t cells[MARNIPODE_LONGEST_TIME + 1];
+    compare_limits();
+    compare_questions(cells);
+    compare_no_sheet();
+    print_score("header in all", 13, counted);
+    return counted.wrong == 0 ? EXIT_SUCCESS : EXIT_FAILURE;
+}
