@@ -70,8 +70,8 @@ tell_progress() {
     done
 }
 
-# Ends all that a build has started, waits a little for the last of it, and then ends this script by the same signal.
-end_build() {
+# Ends all that was started, waits a little for the last of it, and then ends this script by the same signal.
+break_off() {
     trap - INT TERM HUP
     kill -TERM -- "-$started" 2>/dev/null || true
     wait "$started" 2>/dev/null || true
@@ -79,25 +79,31 @@ end_build() {
         kill -0 -- "-$started" 2>/dev/null || break
         sleep 0.1
     done
-    say "ended before it was built; the next call goes on from here"
+    say "broken off, with all that was started; the next call goes on from here"
     kill -s "$1" $$
 }
 
-# Runs rt in a process group of its own, since what it starts does not heed a Ctrl-C by itself.
-run_rt() {
-    local crates ended=0
-    crates=$(count_crates "${!#}")
-    say "building: rt $* proves $crates crates, which takes some minutes where nothing is proved yet"
+# Runs a command in a process group of its own that ends with this script: what rt starts does not heed a Ctrl-C by itself.
+in_group() {
+    local ended=0
     set -m
-    { (cd "$home" && rt "$@") 2>&1 | tell_progress "$crates"; } </dev/null &
+    "$@" </dev/null &
     started=$!
     set +m
-    trap 'end_build INT' INT
-    trap 'end_build TERM' TERM
-    trap 'end_build HUP' HUP
+    trap 'break_off INT' INT
+    trap 'break_off TERM' TERM
+    trap 'break_off HUP' HUP
     wait "$started" || ended=$?
     trap - INT TERM HUP
     return "$ended"
+}
+
+# A command of rt on a crate, told as it goes.
+run_rt() {
+    local crates
+    crates=$(count_crates "${!#}")
+    say "building: rt $* proves $crates crates, which takes some minutes where nothing is proved yet"
+    (cd "$home" && rt "$@") 2>&1 | tell_progress "$crates"
 }
 
 # Makes a file of target/ by a command of rt unless it stands. An edit elsewhere leaves the file as it was, so its time is set here.
@@ -107,7 +113,7 @@ build() {
     if is_built "$file"; then return; fi
     lock_target
     if ! is_built "$file"; then
-        run_rt "$@" || stop "rt $* failed; target/log has what it said"
+        in_group run_rt "$@" || stop "rt $* failed; target/log has what it said"
         touch "$file"
         say "built in $((SECONDS - began)) s"
     fi
