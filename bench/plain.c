@@ -1,6 +1,6 @@
 /*
- * The same two tables in plain C, over the same bytes and the same cells, by the same loops: from set bit to set bit of a
- * follower set, gaps read from the bytes. It includes no header of the machine, so that the kit's own compiler can build it.
+ * The same two tables in plain C, over the same bytes and the same cells, by the same loops: over the followers that a
+ * set has, gaps read from the bytes. It includes no header of the machine, so that the kit's own compiler can build it.
  */
 #include "plain.h"
 
@@ -36,7 +36,7 @@ static cell_number word(const byte_number *bytes, place_number at)
     return (cell_number)bytes[at] * 256 + bytes[at + 1];
 }
 
-/* The first mode whose boundary is at or above the speed has its length. */
+/* The slowest mode that reaches the speed has its length. */
 static cell_number job_length(const struct sheet *sheet, cell_number speed)
 {
     place_number i = 0;

@@ -8,13 +8,14 @@
  *   - a pointer stands for as many elements as the size or count after it says, aligned as its type asks; for 0 elements it
  *     may be null;
  *   - nothing else writes an argument while a call runs, and a lent area (cells, witness) overlaps no other argument;
- *   - MARNIPODE_MOST_STACK bytes of stack are left.
+ *   - MARNIPODE_MOST_STACK bytes of stack are left, and what `memcpy` takes.
  * Nothing else is asked: any bytes may be given as a sheet and any numbers as an interval, amount, horizon or place. A lent
  * area may hold anything before.
  *
  * What a call answers: `number` is 0 where it succeeds, and `place` is 0 then; else `number` is that of the refusal, named below,
- * and `place` is where in the sheet it was given, 0 from 11 on. The other numbers of a refusal are 0. Refusals 1 to 12 change
- * no lent cell or byte. 13 and 14 leave the cells as success would, and 13 leaves the witness area as it was.
+ * and `place` is the byte, from 0, at which the faulty field starts (docs/FORMAT.md has the exceptions), 0 from 11 on. All
+ * else in a refusal is 0. Up to number 12 nothing that was lent is touched; at 13 and 14 the cells are filled already, just as
+ * without a refusal, and 13 writes no byte of the witness area.
  *
  * Calls keep nothing from one to the next and allocate nothing, so several threads may call at once on areas of their own. The
  * archive needs `memcpy` and nothing else: a program without a C library can use it by bringing that one function.
@@ -47,7 +48,7 @@ extern "C" {
 #define MARNIPODE_LARGEST_AMOUNT UINT32_C(65536)
 #define MARNIPODE_NO_TIME UINT32_C(4294967295)
 
-/* No call takes more stack than this, in bytes, with all that it calls. */
+/* No call takes more stack than this, in bytes, with all that it calls but `memcpy`, which the program brings. */
 #define MARNIPODE_MOST_STACK 8192
 
 /*
@@ -146,8 +147,9 @@ marnipode_label_answer marnipode_label(const uint8_t *sheet, size_t size);
 marnipode_field_answer marnipode_field_at(const uint8_t *sheet, size_t size, size_t at);
 
 /*
- * The calls below want cells. With n rows they use n times (interval + 1), n times (horizon + 1), or, for `marnipode_shortest`, n
- * times the amount; fewer give refusal 12, more are left as they were. They are used in lines of n, a cell for each row:
+ * The calls below want cells. With n rows (`rows` of marnipode_judge) they use n times (interval + 1), n times (horizon + 1), or,
+ * for `marnipode_shortest`, n times the amount; fewer give refusal 12, more are left as they were. The most that a call can use
+ * are MARNIPODE_MOST_ROWS times 65,536 cells, 8 MiB. They are used in lines of n, a cell for each row:
  *
  *   - by interval, the cell at s times n + k then holds the most work of a sequence from row k that ends by s, 0 where none ends
  *     in time. The demand at s is the largest cell of line s;

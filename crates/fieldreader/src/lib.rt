@@ -1,4 +1,4 @@
-// The field reader: it holds the caller's bytes and its place in them, and gives one field or one refusal a step.
+// The field reader as a value: the bytes that it was made of, and how far it has come in them.
 use fields::reader::Step;
 use fields::reader::field_at;
 ghost use mathlib.Core.Path.{_≡_};

@@ -1,4 +1,4 @@
-// The field reader: numbers at a place of the file, and one field or one refusal a step.
+// What stands at a place of the file: a number, or a field, or the refusal of one.
 use crate::table::Kind;
 use crate::table::kind_of;
 use crate::table::refused_tag;

@@ -1,4 +1,4 @@
--- Every case of the table holds: one test that the checker computes over the whole table, and one law that turns it into what each case says.
+-- Every case of the table holds: one test is computed for all of them, and one law says what that means for each.
 use Prim.Native.Nat.{ℕ, zero, suc}
 use native.Mathlib.Omega.{arith}
 use mathlib.Core.Path.{_≡_, refl, sym, ap, _∙_, subst}

@@ -87,7 +87,7 @@ withTask sheet task =
       tasks = set (sheet .tasks) (sheet .tally .tasks) task;
     }
 
--- the job length of a speed: that of the first mode whose boundary is at or above it, 0 where there is none
+-- the job length of a speed: that of the slowest mode that reaches it, 0 where none does; a boundary is still reached
 unfoldable pub jobLength : List Mode → Rpm → Ticks
 jobLength [] speed = record { 0 = 0 }
 jobLength (mode ∷ modes) speed = pick (leb (speed .0) (mode .boundary .0)) (mode .length) (jobLength modes speed)

@@ -1,4 +1,4 @@
-// The sheet judged: any bytes are read to the end, and accepted with their values or refused by the first broken rule.
+// The sheet judged: any bytes are accepted with their values, or refused by the first broken rule.
 mod judging;
 pub mod modes;
 

@@ -7,7 +7,7 @@ ghost use mathlib.Core.Path.{_≡_};
 ghost use lib.ListN.{take};
 ghost use Rattle.sheet.specs.Values.{jobLength};
 
-// The length of the first of `count` modes whose boundary is at or above the speed; 0 where there is none.
+// The length of the slowest of `count` modes that reaches the speed, 0 where none does; a boundary is still reached.
 pub fn job_length(modes: [Mode; Sheet::MODES], count: usize, speed: Rpm) -> Ticks
     ensures { λ r. ⌜ r ≡ jobLength (take count modes) speed ⌝ }
 {
