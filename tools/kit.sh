@@ -127,16 +127,17 @@ find_tools() {
     [ -x "$emulator" ] || emulator=
 }
 
-# The commands by which C and C++ are compiled for x86-64, and the disassembler. On another processor they are the cross compiler's, and
-# what is linked is static, as the emulator wants it.
+# The commands by which C and C++ are compiled for x86-64, and the disassembler. On another processor they are the cross compiler's. What
+# it links of C is static, as the emulator wants it; it cannot link C++ so, and the emulator finds the libraries of that in its folder.
 name_compilers() {
     compiler=(cc)
     compiler_of_cpp=(c++)
     objdump=objdump
     if [ -n "$emulator" ]; then
         compiler=(x86_64-linux-gnu-gcc -static)
-        compiler_of_cpp=(x86_64-linux-gnu-g++ -static)
+        compiler_of_cpp=(x86_64-linux-gnu-g++)
         objdump=x86_64-linux-gnu-objdump
+        export QEMU_LD_PREFIX=/usr/x86_64-linux-gnu
     fi
 }
 
