@@ -9,21 +9,23 @@ use fields::values::Task;
 use fields::values::row_of;
 ghost use mathlib.Core.Path.{_≡_};
 ghost use Rattle.fields.specs.Deciding.{firstBroken};
-ghost use Rattle.rules.specs.Rules.{outOfOrder, wrongLength, full, badByte, badRpm, unlikeSet, unknownIn, unknownFollower, commonRules, modeRules, rowRules, taskRules};
+ghost use Rattle.rules.specs.Rules.{missing, outOfOrder, wrongLength, full, badByte, badRpm, unlikeSet, unknownIn, unknownFollower, commonRules, modeRules, rowRules, taskRules};
 
 // The first rules of every known field: its place in the order, its length, its count. 0 where none is broken.
-pub fn common_number(tag: usize, last: usize, wrong: bool, count: usize) -> u8
-    ensures { λ r. ⌜ r ≡ firstBroken (commonRules tag last wrong count) ⌝ }
+// It is told whether the field is a row whose length is unlike its follower set.
+pub fn common_number(tag: usize, last: usize, size: usize, unlike: bool, count: usize) -> u8
+    ensures { λ r. ⌜ r ≡ firstBroken (commonRules tag last size unlike count) ⌝ }
 {
-    let misplaced = out_of_order(last, tag);
-    let full = full_of(tag, count);
-    if misplaced {
+    if out_of_order(last, tag) {
         return 3;
     }
-    if wrong {
+    if wrong_length(tag, size) {
         return 5;
     }
-    if full {
+    if unlike {
+        return 5;
+    }
+    if full_of(tag, count) {
         return 6;
     }
     0
@@ -49,8 +51,8 @@ pub fn mode_number(tally: Tally, mode: Mode) -> u8
 
 // The rules of a row's numbers; of its gaps it is told whether one is zero and whether one is below the deadline.
 // Rule 8: a speed that is not above the one before, or is above the last boundary. Rule 10: a gap below the deadline.
-pub fn row_number(tally: Tally, row: Row, zero: bool, short: bool) -> u8
-    ensures { λ r. ⌜ r ≡ firstBroken (rowRules tally row zero short) ⌝ }
+pub fn row_number(tally: Tally, row: Row, zero_gap: bool, short_gap: bool) -> u8
+    ensures { λ r. ⌜ r ≡ firstBroken (rowRules tally row «zero_gap» «short_gap») ⌝ }
 {
     let speed = row.speed;
     let deadline = row.deadline;
@@ -60,7 +62,7 @@ pub fn row_number(tally: Tally, row: Row, zero: bool, short: bool) -> u8
     if deadline.0 == 0 {
         return 7;
     }
-    if zero {
+    if zero_gap {
         return 7;
     }
     if speed.at_most(tally.fastest) {
@@ -69,7 +71,7 @@ pub fn row_number(tally: Tally, row: Row, zero: bool, short: bool) -> u8
     if speed.above(tally.top) {
         return 8;
     }
-    if short {
+    if short_gap {
         return 10;
     }
     0
@@ -105,13 +107,23 @@ pub fn out_of_order(last: usize, tag: usize) -> bool
     if tag == last {
         return line.most <= 1;
     }
-    let mut passed = last + 1;
+    let mut passed: usize = 0;
     while passed < tag {
-        let missing = line_of(passed);
-        if missing.required {
+        if is_missing(last, passed) {
             return true;
         }
         passed += 1;
+    }
+    false
+}
+
+// A required kind whose tag is above the last known one: no field of it has come.
+fn is_missing(last: usize, tag: usize) -> bool
+    ensures { λ r. ⌜ r ≡ missing last tag ⌝ }
+{
+    let line = line_of(tag);
+    if last < tag {
+        return line.required;
     }
     false
 }

@@ -1,16 +1,16 @@
 -- The judge: the rules of a field of each kind, what a field adds to the sheet, and the walk over the fields in file order.
 use Prim.Native.Nat.{ℕ, zero, suc, _+_}
 use mathlib.Core.List.{List, [], _∷_, _++_}
-use mathlib.Core.Bool.{true}
+use mathlib.Core.Bool.{true, false}
 use lib.ListN.{length, take, drop}
 use lib.Dec.{ltb}
 use Rattle.fields.specs.Deciding.{Rule, _when_, pick, judgedBy}
 use Rattle.fields.specs.Fields.{isEnd}
-use Rattle.fields.specs.Reading.{fieldAt, modeAt, rowAt, taskAt}
+use Rattle.fields.specs.Reading.{longAt, fieldAt, modeAt, rowAt, taskAt}
 use Rattle.fields.specs.Values.{emptySheet}
 use Rattle.sheet.specs.Values.{withLabel, withMode, withRow, withTask}
-use Rattle.rules.specs.Rules.{wrongLength, unknownFollower, commonRules, modeRules, taskRules}
-use Rattle.sheet.specs.Content.{wrongRow, textRules, rowGapRules}
+use Rattle.rules.specs.Rules.{unlikeSet, unknownFollower, commonRules, modeRules, taskRules}
+use Rattle.sheet.specs.Content.{textRules, rowGapRules}
 use Rattle.fields.specs.declared.table.Kind.{Kind}
 use Rattle.fields.specs.declared.table.Kind.the-variants.{RefusedTag, LabelField, ModeField, RowField, TaskField, EndField, SkippedField}
 use Rattle.fields.specs.declared.reader.Step.{Step}
@@ -38,11 +38,11 @@ refusal number place = record { answer = Refused number place; sheet = emptyShee
 -- the first rules of a field of each kind: its place in the order, its length, its count; label and end are not counted, since rules 3 and 4 keep a second one out, and a refused tag is refused by the reader already, by rule 2
 unfoldable pub headRules : List ℕ → Tally → Kind → ℕ → ℕ → List Rule
 headRules bytes tally RefusedTag start size = 2 when true ∷ []
-headRules bytes tally LabelField start size = commonRules 1 (tally .last) (wrongLength 1 size) 0
-headRules bytes tally ModeField start size = commonRules 2 (tally .last) (wrongLength 2 size) (tally .modes)
-headRules bytes tally RowField start size = commonRules 3 (tally .last) (wrongRow bytes start size) (tally .rows)
-headRules bytes tally TaskField start size = commonRules 4 (tally .last) (wrongLength 4 size) (tally .tasks)
-headRules bytes tally EndField start size = commonRules 5 (tally .last) (wrongLength 5 size) 0
+headRules bytes tally LabelField start size = commonRules 1 (tally .last) size false 0
+headRules bytes tally ModeField start size = commonRules 2 (tally .last) size false (tally .modes)
+headRules bytes tally RowField start size = commonRules 3 (tally .last) size (unlikeSet size (longAt bytes (start + 4))) (tally .rows)
+headRules bytes tally TaskField start size = commonRules 4 (tally .last) size false (tally .tasks)
+headRules bytes tally EndField start size = commonRules 5 (tally .last) size false 0
 headRules bytes tally SkippedField start size = []
 
 -- then those of its bytes and numbers
