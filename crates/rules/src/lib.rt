@@ -40,7 +40,7 @@ pub fn mode_number(tally: Tally, mode: Mode) -> u8
     if bad_rpm(boundary) {
         return 7;
     }
-    if length.0 == 0 {
+    if length.is_zero() {
         return 7;
     }
     if boundary.at_most(tally.top) {
@@ -59,7 +59,7 @@ pub fn row_number(tally: Tally, row: Row, zero_gap: bool, short_gap: bool) -> u8
     if bad_rpm(speed) {
         return 7;
     }
-    if deadline.0 == 0 {
+    if deadline.is_zero() {
         return 7;
     }
     if zero_gap {
@@ -84,13 +84,13 @@ pub fn task_number(task: Task) -> u8
     let length = task.length;
     let period = task.period;
     let deadline = task.deadline;
-    if length.0 == 0 {
+    if length.is_zero() {
         return 7;
     }
-    if period.0 == 0 {
+    if period.is_zero() {
         return 7;
     }
-    if deadline.0 == 0 {
+    if deadline.is_zero() {
         return 7;
     }
     0
@@ -139,7 +139,7 @@ pub fn wrong_length(tag: usize, size: usize) -> bool
     line.longest < size
 }
 
-// Rule 5 of a row: a length that is not its head and two bytes for each row of the follower set.
+// Rule 5 of a row: a length that is not its head and one gap for each row of the follower set.
 pub fn unlike_set(size: usize, followers: u64) -> bool
     ensures { λ r. ⌜ r ≡ unlikeSet size followers ⌝ }
 {
@@ -168,10 +168,10 @@ pub fn bad_byte(byte: u8) -> bool
 pub fn bad_rpm(speed: Rpm) -> bool
     ensures { λ r. ⌜ r ≡ badRpm speed ⌝ }
 {
-    if speed.0 == 0 {
+    if speed.is_zero() {
         return true;
     }
-    Sheet::RPM < speed.0
+    speed.above(Sheet::RPM)
 }
 
 // Rule 9 of one follower set: it has a row that is not among the sheet's.

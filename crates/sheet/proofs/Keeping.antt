@@ -9,7 +9,7 @@ use lib.ListN.{length}
 use borrow.Author.Tests.{ltb-false}
 use Rattle.fields.specs.Deciding.{Rule, _when_, pick}
 use Rattle.fields.specs.Fields.{isEnd}
-use Rattle.fields.specs.Reading.{longAt, fieldAt, modeAt, rowAt, taskAt}
+use Rattle.fields.specs.Reading.{fieldAt, modeAt, rowAt, taskAt}
 use Rattle.fields.specs.Values.{emptySheet}
 use Rattle.sheet.specs.Values.{withLabel, withMode, withRow, withTask}
 use Rattle.rules.specs.Rules.{outOfOrder, wrongLength, unlikeSet, unknownFollower, commonRules, modeRules, taskRules}
@@ -45,7 +45,7 @@ pub record Keeps (bytes : List ℕ) (P : ℕ → Sheet → Type 0) (Q : Judged �
       → Kept (commonRules 2 (sheet .tally .last) size false (sheet .tally .modes)) → Kept (modeRules (sheet .tally) (modeAt bytes start))
       → P next (withMode sheet (modeAt bytes start))
   pub row : (sheet : Sheet) (at start size next : ℕ) → fieldAt bytes at ≡ Field RowField start size next → P at sheet
-      → Kept (commonRules 3 (sheet .tally .last) size (unlikeSet size (longAt bytes (start + 4))) (sheet .tally .rows)) → Kept (rowGapRules bytes (sheet .tally) (rowAt bytes start))
+      → Kept (commonRules 3 (sheet .tally .last) size (unlikeSet size (rowAt bytes start .followers)) (sheet .tally .rows)) → Kept (rowGapRules bytes (sheet .tally) (rowAt bytes start))
       → P next (withRow sheet (rowAt bytes start))
   pub task : (sheet : Sheet) (at start size next : ℕ) → fieldAt bytes at ≡ Field TaskField start size next → P at sheet
       → Kept (commonRules 4 (sheet .tally .last) size false (sheet .tally .tasks)) → Kept (taskRules (taskAt bytes start))

@@ -9,7 +9,7 @@ use Rattle.fields.specs.Deciding.{firstBroken}
 use Rattle.fields.specs.Fields.{lineOf, fields}
 use Rattle.sheet.specs.Judging.{headRules, ownRules, fieldRules}
 use Rattle.fields.specs.Limits.{headSize, gapSize, modeLimit, rowLimit, taskLimit}
-use Rattle.fields.specs.Reading.{longAt}
+use Rattle.fields.specs.Reading.{rowAt}
 use Rattle.rules.specs.Rules.{outOfOrder, wrongLength, unlikeSet, full, followerCount, commonRules, modeRules, rowRules, taskRules}
 use Rattle.sheet.specs.Content.{textRules, rowGapRules}
 use Rattle.fields.specs.declared.table.Kind.{Kind}
@@ -60,7 +60,7 @@ row-length size followers e = eqb-true _ _ (not-false _ e)
 
 -- a row's content is as long as its head and its gaps, and there is room for one more row
 abbrev pub RowFits : List ℕ → Tally → ℕ → ℕ → Type 0
-RowFits bytes tally start size = (headSize ≤ size) × (size ≡ headSize + gapSize * followerCount (longAt bytes (start + 4))) × (tally .rows < rowLimit)
+RowFits bytes tally start size = (headSize ≤ size) × (size ≡ headSize + gapSize * followerCount (rowAt bytes start .followers)) × (tally .rows < rowLimit)
 
 module _ (bytes : List ℕ) (tally : Tally) (start size : ℕ) where
   pub head-numbered : (kind : Kind) → T (numbered (headRules bytes tally kind start size))

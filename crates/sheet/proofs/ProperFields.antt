@@ -35,7 +35,7 @@ module _ (bytes : List ℕ) (fit : Bytes bytes) where
   unfolding modeRules
   mode-proper tally start k = record { boundary = rpm-kept _ (k .0); length = ticks-positive _ (k .1 .0) }
 
-  pub row-proper : (tally : Tally) (start size : ℕ) → start + size ≤ length bytes → unlikeSet size (longAt bytes (start + 4)) ≡ false → Kept (rowGapRules bytes tally (rowAt bytes start))
+  pub row-proper : (tally : Tally) (start size : ℕ) → start + size ≤ length bytes → unlikeSet size (rowAt bytes start .followers) ≡ false → Kept (rowGapRules bytes tally (rowAt bytes start))
       → ProperRow bytes rowLimit (rowAt bytes start)
   unfolding rowGapRules rowRules
   row-proper tally start size inside right k =

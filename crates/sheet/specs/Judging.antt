@@ -6,7 +6,7 @@ use lib.ListN.{length, take, drop}
 use lib.Dec.{ltb}
 use Rattle.fields.specs.Deciding.{Rule, _when_, pick, judgedBy}
 use Rattle.fields.specs.Fields.{isEnd}
-use Rattle.fields.specs.Reading.{longAt, fieldAt, modeAt, rowAt, taskAt}
+use Rattle.fields.specs.Reading.{fieldAt, modeAt, rowAt, taskAt}
 use Rattle.fields.specs.Values.{emptySheet}
 use Rattle.sheet.specs.Values.{withLabel, withMode, withRow, withTask}
 use Rattle.rules.specs.Rules.{unlikeSet, unknownFollower, commonRules, modeRules, taskRules}
@@ -35,12 +35,12 @@ placeOf (Refused number place) = place
 unfoldable pub refusal : ℕ → ℕ → Judged
 refusal number place = record { answer = Refused number place; sheet = emptySheet }
 
--- the first rules of a field of each kind: its place in the order, its length, its count; label and end are not counted, since rules 3 and 4 keep a second one out, and a refused tag is refused by the reader already, by rule 2
+-- the first rules of a field of each kind: its place in the order, its length, on which a row's own follower set has a say too, its count; label and end are not counted, since rules 3 and 4 keep a second one out, and a refused tag is refused by the reader already, by rule 2
 unfoldable pub headRules : List ℕ → Tally → Kind → ℕ → ℕ → List Rule
 headRules bytes tally RefusedTag start size = 2 when true ∷ []
 headRules bytes tally LabelField start size = commonRules 1 (tally .last) size false 0
 headRules bytes tally ModeField start size = commonRules 2 (tally .last) size false (tally .modes)
-headRules bytes tally RowField start size = commonRules 3 (tally .last) size (unlikeSet size (longAt bytes (start + 4))) (tally .rows)
+headRules bytes tally RowField start size = commonRules 3 (tally .last) size (unlikeSet size (rowAt bytes start .followers)) (tally .rows)
 headRules bytes tally TaskField start size = commonRules 4 (tally .last) size false (tally .tasks)
 headRules bytes tally EndField start size = commonRules 5 (tally .last) size false 0
 headRules bytes tally SkippedField start size = []

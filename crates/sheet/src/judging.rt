@@ -51,13 +51,10 @@ fn head_number(bytes: &[u8], tally: Tally, kind: Kind, start: usize, size: usize
         Kind::RefusedTag => 2,
         Kind::LabelField => common_number(1, tally.last, size, false, 0),
         Kind::ModeField => common_number(2, tally.last, size, false, tally.modes),
-        Kind::RowField => common_number(
-            3,
-            tally.last,
-            size,
-            unlike_set(size, long_at(bytes, start + 4)),
-            tally.rows,
-        ),
+        Kind::RowField => {
+            let unlike = unlike_set(size, long_at(bytes, start + 4));
+            common_number(3, tally.last, size, unlike, tally.rows)
+        }
         Kind::TaskField => common_number(4, tally.last, size, false, tally.tasks),
         Kind::EndField => common_number(5, tally.last, size, false, 0),
         Kind::SkippedField => 0,
