@@ -47,7 +47,7 @@ pub long-enough : (tag size : ℕ) → wrongLength tag size ≡ false → lineOf
 unfolding wrongLength
 long-enough tag size e = ltb-false _ _ (neither _ _ e .0)
 
--- its content is long enough for its numbers, and there is room for one more
+-- a field's content is long enough for its numbers, and there is room for one more
 pub common-fits : (tag last size count : ℕ) (unlike : Bool) → Kept (commonRules tag last size unlike count) → (lineOf tag .shortest ≤ size) × (count < lineOf tag .most)
 common-fits tag last size count unlike k =
     let says = common-says tag last size count unlike k in
