@@ -30,7 +30,7 @@ fn interval_lines(interval: u64) -> usize
     ensures { λ r. ⌜ r ≡ pick (ltb longestTime interval) 0 (interval + 1) ⌝ }
     ensures { λ r. ⌜ r ≤ longestTime + 1 ⌝ }
 {
-    if (Sheet::TICKS as u64) < interval {
+    if (Sheet::TICKS.0 as u64) < interval {
         return 0;
     }
     interval as usize + 1
@@ -41,7 +41,7 @@ fn amount_lines(amount: u64) -> usize
     ensures { λ r. ⌜ r ≡ pick (badAmount amount) 0 amount ⌝ }
     ensures { λ r. ⌜ r ≤ longestTime + 1 ⌝ }
 {
-    if (Sheet::TICKS as u64) + 1 < amount {
+    if (Sheet::TICKS.0 as u64) + 1 < amount {
         return 0;
     }
     amount as usize

@@ -13,7 +13,7 @@ pub(crate) fn horizon_of(cells: usize, rows: usize) -> usize
     ensures { λ r. ⌜ IsHorizon cells rows r ⌝ }
 {
     let lines = cells / rows;
-    let longest = Sheet::TICKS as usize;
+    let longest = Sheet::TICKS.0 as usize;
     if longest < lines { longest } else { lines - 1 }
 }
 

@@ -21,8 +21,11 @@ pub enum Kind {
     SkippedField,
 }
 
-// One line for each tag from 1: label, mode, row, fixed task, end.
-const FIELDS: [Line; 5] = [
+// How many kinds of field are known; their tags are the numbers from 1 on.
+const KINDS: usize = 5;
+
+// One line for each known kind: label, mode, row, fixed task, end.
+const FIELDS: [Line; KINDS] = [
     Line {
         shortest: 1,
         longest: Sheet::LABEL,
@@ -62,7 +65,7 @@ pub fn line_of(tag: usize) -> Line
     if tag == 0 {
         return no_line();
     }
-    if 5 < tag {
+    if KINDS < tag {
         return no_line();
     }
     FIELDS[tag - 1]

@@ -1,6 +1,6 @@
 // Speeds and times as quantities of their own: no function turns one into the other.
 ghost use mathlib.Core.Path.{_≡_};
-ghost use lib.Dec.{leb, ltb};
+ghost use lib.Dec.{eqb, leb, ltb};
 
 // A speed in revolutions per minute.
 pub struct Rpm(pub u16);
@@ -9,6 +9,13 @@ pub struct Rpm(pub u16);
 pub struct Ticks(pub u16);
 
 impl Rpm {
+    // Whether this is no speed at all.
+    pub fn is_zero(self) -> bool
+        ensures { λ r. ⌜ r ≡ eqb (self .0) 0 ⌝ }
+    {
+        self.0 == 0
+    }
+
     // Whether this speed is at most the other. A boundary speed is at most its boundary, so it stays in the slower mode.
     pub fn at_most(self, other: Rpm) -> bool
         ensures { λ r. ⌜ r ≡ leb (self .0) (other .0) ⌝ }
@@ -25,6 +32,13 @@ impl Rpm {
 }
 
 impl Ticks {
+    // Whether this is no time at all.
+    pub fn is_zero(self) -> bool
+        ensures { λ r. ⌜ r ≡ eqb (self .0) 0 ⌝ }
+    {
+        self.0 == 0
+    }
+
     // Whether this time is shorter than the other.
     pub fn shorter(self, other: Ticks) -> bool
         ensures { λ r. ⌜ r ≡ ltb (self .0) (other .0) ⌝ }

@@ -59,9 +59,9 @@ impl Sheet {
 
     pub const TASKS: usize = 16;
     // The highest speed, and the longest time.
-    pub const RPM: u16 = 20000;
+    pub const RPM: Rpm = Rpm(20000);
 
-    pub const TICKS: u16 = 65535;
+    pub const TICKS: Ticks = Ticks(65535);
     // The longest label, and the bytes of a row before its gaps and in each gap.
     pub const LABEL: usize = 32;
 

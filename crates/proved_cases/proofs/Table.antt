@@ -21,8 +21,8 @@ use Rattle.fields.specs.Fields.{lineOf, fields}
 use Rattle.fields.specs.Reading.{fieldAt}
 use Rattle.fields.specs.Values.{emptySheet}
 use Rattle.sheet.specs.Values.{jobLength}
-use Rattle.rules.specs.Rules.{outOfOrder, wrongLength, unlikeSet, full, badByte, badRpm, unknownIn, unknownFollower, commonRules, modeRules, rowRules, taskRules}
-use Rattle.sheet.specs.Content.{wrongRow, badText, gapShorter, textRules, rowGapRules}
+use Rattle.rules.specs.Rules.{missing, outOfOrder, wrongLength, unlikeSet, full, badByte, badRpm, unknownIn, unknownFollower, commonRules, modeRules, rowRules, taskRules}
+use Rattle.sheet.specs.Content.{badText, gapShorter, textRules, rowGapRules}
 use Rattle.sheet.specs.Judging.{refusal, headRules, ownRules, withField, endJudged, onField, walk, judged}
 use Rattle.sheet.specs.Meaning.{graphOf, eachTask, tasksOf}
 use Rattle.sheet.specs.Proper.{Bytes}
@@ -171,5 +171,5 @@ all (c ∷ table) t =
     (law c (parts .0), all table (parts .1))
 
 pub cases-hold : All cases
-unfolding cases stepAt bestWithin best leastAt leastWithin least demandOf shortestOf restWithin witnessOf marginOf fixedOf fixedSum pick anyFrom firstBroken lineOf fields fieldAt emptySheet jobLength outOfOrder wrongLength unlikeSet wrongRow full badByte badText badRpm gapShorter unknownIn unknownFollower commonRules textRules modeRules rowRules rowGapRules taskRules refusal headRules ownRules withField endJudged onField walk judged graphOf eachTask tasksOf below nextIn
+unfolding cases stepAt bestWithin best leastAt leastWithin least demandOf shortestOf restWithin witnessOf marginOf fixedOf fixedSum pick anyFrom firstBroken lineOf fields fieldAt emptySheet jobLength missing outOfOrder wrongLength unlikeSet full badByte badText badRpm gapShorter unknownIn unknownFollower commonRules textRules modeRules rowRules rowGapRules taskRules refusal headRules ownRules withField endJudged onField walk judged graphOf eachTask tasksOf below nextIn
 cases-hold = all cases tt

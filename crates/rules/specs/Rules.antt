@@ -18,12 +18,16 @@ use Rattle.fields.specs.declared.values.Row.{Row}
 use Rattle.fields.specs.declared.values.Task.{Task}
 use Rattle.fields.specs.declared.values.Tally.{Tally}
 
+-- a required kind whose tag is above the last known one: no field of it has come
+unfoldable pub missing : ℕ → ℕ → Bool
+missing last tag = pick (ltb last tag) (lineOf tag .required) false
+
 -- rule 3: a tag below the last known one, a second field of a kind that stands once, or a required kind passed over
 unfoldable pub outOfOrder : ℕ → ℕ → Bool
 outOfOrder last tag =
     pick (ltb tag last) true
     (pick (eqb tag last) (leb (lineOf tag .most) 1)
-    (anyFrom (λ passed. lineOf passed .required) (last + 1) (tag - (last + 1))))
+    (anyFrom (missing last) 0 tag))
 
 -- rule 5: a length that the tag's line does not allow
 unfoldable pub wrongLength : ℕ → ℕ → Bool
@@ -66,11 +70,12 @@ unknownIn followers rows = isAt (nextIn (width - rows) followers rows)
 unfoldable pub unknownFollower : List Row → ℕ → Bool
 unknownFollower rows count = anyFrom (λ k. unknownIn (getD rows k noRow .followers) count) 0 count
 
--- the first rules of every known field: its place in the order, its length, its count
-unfoldable pub commonRules : ℕ → ℕ → Bool → ℕ → List Rule
-commonRules tag last wrong count =
+-- the first rules of every known field: its place in the order, its length, its count, where it is known whether it is a row whose length is unlike its set
+unfoldable pub commonRules : ℕ → ℕ → ℕ → Bool → ℕ → List Rule
+commonRules tag last size unlike count =
     3 when (outOfOrder last tag)
-    ∷ 5 when wrong
+    ∷ 5 when (wrongLength tag size)
+    ∷ 5 when unlike
     ∷ 6 when (full tag count)
     ∷ []
 
@@ -85,13 +90,13 @@ modeRules tally mode =
 -- the rules of a row's numbers, where it is known whether a gap is zero and whether one is below the deadline
 -- rule 8: a speed that is not above the one before, or is above the last boundary; rule 10: a gap below the deadline
 unfoldable pub rowRules : Tally → Row → Bool → Bool → List Rule
-rowRules tally row zero short =
+rowRules tally row zeroGap shortGap =
     7 when (badRpm (row .speed))
     ∷ 7 when (noTicks (row .deadline))
-    ∷ 7 when zero
+    ∷ 7 when zeroGap
     ∷ 8 when (leb (row .speed .0) (tally .fastest .0))
     ∷ 8 when (ltb (tally .top .0) (row .speed .0))
-    ∷ 10 when short
+    ∷ 10 when shortGap
     ∷ []
 
 -- the rules of a fixed task's numbers

@@ -9,21 +9,23 @@ use fields::values::Task;
 use fields::values::row_of;
 ghost use mathlib.Core.Path.{_≡_};
 ghost use Rattle.fields.specs.Deciding.{firstBroken};
-ghost use Rattle.rules.specs.Rules.{outOfOrder, wrongLength, full, badByte, badRpm, unlikeSet, unknownIn, unknownFollower, commonRules, modeRules, rowRules, taskRules};
+ghost use Rattle.rules.specs.Rules.{missing, outOfOrder, wrongLength, full, badByte, badRpm, unlikeSet, unknownIn, unknownFollower, commonRules, modeRules, rowRules, taskRules};
 
 // The first rules of every known field: its place in the order, its length, its count. 0 where none is broken.
-pub fn common_number(tag: usize, last: usize, wrong: bool, count: usize) -> u8
-    ensures { λ r. ⌜ r ≡ firstBroken (commonRules tag last wrong count) ⌝ }
+// It is told whether the field is a row whose length is unlike its follower set.
+pub fn common_number(tag: usize, last: usize, size: usize, unlike: bool, count: usize) -> u8
+    ensures { λ r. ⌜ r ≡ firstBroken (commonRules tag last size unlike count) ⌝ }
 {
-    let misplaced = out_of_order(last, tag);
-    let full = full_of(tag, count);
-    if misplaced {
+    if out_of_order(last, tag) {
         return 3;
     }
-    if wrong {
+    if wrong_length(tag, size) {
         return 5;
     }
-    if full {
+    if unlike {
+        return 5;
+    }
+    if full_of(tag, count) {
         return 6;
     }
     0
@@ -38,7 +40,7 @@ pub fn mode_number(tally: Tally, mode: Mode) -> u8
     if bad_rpm(boundary) {
         return 7;
     }
-    if length.0 == 0 {
+    if length.is_zero() {
         return 7;
     }
     if boundary.at_most(tally.top) {
@@ -49,18 +51,18 @@ pub fn mode_number(tally: Tally, mode: Mode) -> u8
 
 // The rules of a row's numbers; of its gaps it is told whether one is zero and whether one is below the deadline.
 // Rule 8: a speed that is not above the one before, or is above the last boundary. Rule 10: a gap below the deadline.
-pub fn row_number(tally: Tally, row: Row, zero: bool, short: bool) -> u8
-    ensures { λ r. ⌜ r ≡ firstBroken (rowRules tally row zero short) ⌝ }
+pub fn row_number(tally: Tally, row: Row, zero_gap: bool, short_gap: bool) -> u8
+    ensures { λ r. ⌜ r ≡ firstBroken (rowRules tally row «zero_gap» «short_gap») ⌝ }
 {
     let speed = row.speed;
     let deadline = row.deadline;
     if bad_rpm(speed) {
         return 7;
     }
-    if deadline.0 == 0 {
+    if deadline.is_zero() {
         return 7;
     }
-    if zero {
+    if zero_gap {
         return 7;
     }
     if speed.at_most(tally.fastest) {
@@ -69,7 +71,7 @@ pub fn row_number(tally: Tally, row: Row, zero: bool, short: bool) -> u8
     if speed.above(tally.top) {
         return 8;
     }
-    if short {
+    if short_gap {
         return 10;
     }
     0
@@ -82,13 +84,13 @@ pub fn task_number(task: Task) -> u8
     let length = task.length;
     let period = task.period;
     let deadline = task.deadline;
-    if length.0 == 0 {
+    if length.is_zero() {
         return 7;
     }
-    if period.0 == 0 {
+    if period.is_zero() {
         return 7;
     }
-    if deadline.0 == 0 {
+    if deadline.is_zero() {
         return 7;
     }
     0
@@ -105,13 +107,23 @@ pub fn out_of_order(last: usize, tag: usize) -> bool
     if tag == last {
         return line.most <= 1;
     }
-    let mut passed = last + 1;
+    let mut passed: usize = 0;
     while passed < tag {
-        let missing = line_of(passed);
-        if missing.required {
+        if is_missing(last, passed) {
             return true;
         }
         passed += 1;
+    }
+    false
+}
+
+// A required kind whose tag is above the last known one: no field of it has come.
+fn is_missing(last: usize, tag: usize) -> bool
+    ensures { λ r. ⌜ r ≡ missing last tag ⌝ }
+{
+    let line = line_of(tag);
+    if last < tag {
+        return line.required;
     }
     false
 }
@@ -127,7 +139,7 @@ pub fn wrong_length(tag: usize, size: usize) -> bool
     line.longest < size
 }
 
-// Rule 5 of a row: a length that is not its head and two bytes for each row of the follower set.
+// Rule 5 of a row: a length that is not its head and one gap for each row of the follower set.
 pub fn unlike_set(size: usize, followers: u64) -> bool
     ensures { λ r. ⌜ r ≡ unlikeSet size followers ⌝ }
 {
@@ -156,10 +168,10 @@ pub fn bad_byte(byte: u8) -> bool
 pub fn bad_rpm(speed: Rpm) -> bool
     ensures { λ r. ⌜ r ≡ badRpm speed ⌝ }
 {
-    if speed.0 == 0 {
+    if speed.is_zero() {
         return true;
     }
-    Sheet::RPM < speed.0
+    speed.above(Sheet::RPM)
 }
 
 // Rule 9 of one follower set: it has a row that is not among the sheet's.

@@ -1,14 +1,14 @@
 -- One bit of a set, and what clear bits say of the whole set: a halving drops the lowest bit, so a number whose bits are all clear is 0.
 use mathlib.Core.Path.{_≡_, sym, ap, _∙_, subst}
 use mathlib.Core.Logic.{_⊎_, inl, inr, ⊎-elim, _↔_}
-use mathlib.Core.Bool.{true, false}
+use mathlib.Core.Bool.{true}
 use Prim.Native.Nat.{ℕ, zero, suc, _+_, _/_, _%_, _^_, _≤_, _<_, max}
 use native.Mathlib.Nat.{add-comm, pow-suc, div-one, one-mul, div-eq-of-lt, div-lt-iff-lt-mul, eq-zero-or-pos, le-add-right, lt-of-lt-of-le, lt-of-le-of-lt, lt-of-not-le, le-max-left, le-max-right, zero-lt-suc}
 use native.Mathlib.Numerals.{add-one}
 use native.Mathlib.Omega.{arith}
 use lib.Arith.{lt-one}
 use lib.Pow.{pow-pos, pow-mono, shr-shr}
-use borrow.Author.Tests.{eqb-true, eqb-false}
+use borrow.Author.Tests.{eqb-true}
 use Rattle.sets.specs.Sets.{bit, member}
 
 -- one place up is one halving more
@@ -28,9 +28,6 @@ bit-or s j = ⊎-elim inl (λ p. inr (omega arith)) (eq-zero-or-pos (bit s j))
 
 pub member-true : (s j : ℕ) → member s j ≡ true → bit s j ≡ 1
 member-true s j e = eqb-true (bit s j) 1 e
-
-pub member-false : (s j : ℕ) → member s j ≡ false → bit s j ≡ 0
-member-false s j e = ⊎-elim (λ z. z) (λ o. absurd (eqb-false (bit s j) 1 e o)) (bit-or s j)
 
 -- ---- the width of a set
 

@@ -4,3 +4,4 @@ pub mod Zeros
 pub mod Search
 pub mod Folds
 pub mod Clearing
+pub mod Determined

@@ -1,7 +1,7 @@
-// Sets of rows as numbers, bit j for row j: whether a row is in one, how many of its rows stand below a row, and which comes next.
+// Sets of rows as numbers, bit j for row j: how many rows one has, how many of them stand below a row, and which comes next.
 ghost use mathlib.Core.Path.{_≡_};
-ghost use Prim.Native.Nat.{_-_, _*_, _≤_};
-ghost use Rattle.sets.specs.Sets.{width, member, below, nextIn};
+ghost use Prim.Native.Nat.{_-_, _≤_};
+ghost use Rattle.sets.specs.Sets.{width, below, nextIn};
 
 // How many bits a set has.
 pub const WIDTH: usize = 64;
@@ -10,16 +10,6 @@ pub const WIDTH: usize = 64;
 pub enum Next {
     At(usize),
     Nothing,
-}
-
-// Whether a row is in the set. No row from the width on is.
-pub fn contains(set: u64, row: usize) -> bool
-    ensures { λ r. ⌜ r ≡ member set row ⌝ }
-{
-    if row < WIDTH {
-        return (set >> row) % 2 == 1;
-    }
-    false
 }
 
 // How many rows are in the set.
@@ -40,14 +30,6 @@ pub fn below_row(set: u64, row: usize) -> usize
     }
     let one: u64 = 1;
     size(set % (one << row))
-}
-
-// How far a row's gap stands behind the first gap, at two bytes a gap, lowest row first.
-pub fn gap_place(set: u64, row: usize) -> usize
-    ensures { λ r. ⌜ r ≡ 2 * below set row ⌝ }
-    ensures { λ r. ⌜ r ≤ 128 ⌝ }
-{
-    2 * below_row(set, row)
 }
 
 // The first row of the set at a place or after it.

@@ -100,7 +100,7 @@ module _ (bytes : List ℕ) (fit : Bytes bytes) where
               rows-some = λ h. absurd (omega arith);
             };
         mode = λ sheet at start size next e g common own.
-            let free : sheet .tally .modes < length (sheet .modes) = omega (arith, common-says _ _ _ _ common, g .modes .room) in
+            let free : sheet .tally .modes < length (sheet .modes) = omega (arith, common-says _ _ _ _ _ common, g .modes .room) in
             let rises = mode-rises _ _ own in
             record {
               label-inside = g .label-inside;
@@ -113,10 +113,10 @@ module _ (bytes : List ℕ) (fit : Bytes bytes) where
               rows-some = λ h. absurd (omega arith);
             };
         row = λ sheet at start size next e g common own.
-            let says = common-says _ _ _ _ common in
+            let says = common-says _ _ _ _ _ common in
             let free : sheet .tally .rows < length (sheet .rows) = omega (arith, g .rows .room) in
             let rises = row-rises _ _ _ own in
-            let proper = row-proper bytes fit _ _ _ (omega (arith, field-in bytes at _ start size next e)) (says .1) own in
+            let proper = row-proper bytes fit _ _ _ (omega (arith, field-in bytes at _ start size next e)) (says .2) own in
             record {
               label-inside = g .label-inside;
               modes = g .modes;
@@ -128,7 +128,7 @@ module _ (bytes : List ℕ) (fit : Bytes bytes) where
               rows-some = λ h. omega arith;
             };
         task = λ sheet at start size next e g common own.
-            let says = common-says _ _ _ _ common in
+            let says = common-says _ _ _ _ _ common in
             let free : sheet .tally .tasks < length (sheet .tasks) = omega (arith, g .tasks .room) in
             record {
               label-inside = g .label-inside;

@@ -12,8 +12,8 @@ use Rattle.fields.specs.Fields.{isEnd}
 use Rattle.fields.specs.Reading.{fieldAt, modeAt, rowAt, taskAt}
 use Rattle.fields.specs.Values.{emptySheet}
 use Rattle.sheet.specs.Values.{withLabel, withMode, withRow, withTask}
-use Rattle.rules.specs.Rules.{outOfOrder, wrongLength, unknownFollower, commonRules, modeRules, taskRules}
-use Rattle.sheet.specs.Content.{wrongRow, badText, textRules, rowGapRules}
+use Rattle.rules.specs.Rules.{outOfOrder, wrongLength, unlikeSet, unknownFollower, commonRules, modeRules, taskRules}
+use Rattle.sheet.specs.Content.{badText, textRules, rowGapRules}
 use Rattle.sheet.specs.Judging.{refusal, headRules, ownRules, fieldRules, withField, checked, endJudged, onField, walk, judged}
 use Rattle.fields.specs.declared.table.Kind.{Kind}
 use Rattle.fields.specs.declared.table.Kind.the-variants.{RefusedTag, LabelField, ModeField, RowField, TaskField, EndField, SkippedField}
@@ -39,16 +39,16 @@ pub record Keeps (bytes : List ℕ) (P : ℕ → Sheet → Type 0) (Q : Judged �
   pub none : P 0 emptySheet
   pub refused : (n place : ℕ) → OfFile n → place ≤ length bytes → Q (refusal n place)
   pub label : (sheet : Sheet) (at start size next : ℕ) → fieldAt bytes at ≡ Field LabelField start size next → P at sheet
-      → Kept (commonRules 1 (sheet .tally .last) (wrongLength 1 size) 0) → badText bytes start size ≡ false
+      → Kept (commonRules 1 (sheet .tally .last) size false 0) → badText bytes start size ≡ false
       → P next (withLabel sheet start size)
   pub mode : (sheet : Sheet) (at start size next : ℕ) → fieldAt bytes at ≡ Field ModeField start size next → P at sheet
-      → Kept (commonRules 2 (sheet .tally .last) (wrongLength 2 size) (sheet .tally .modes)) → Kept (modeRules (sheet .tally) (modeAt bytes start))
+      → Kept (commonRules 2 (sheet .tally .last) size false (sheet .tally .modes)) → Kept (modeRules (sheet .tally) (modeAt bytes start))
       → P next (withMode sheet (modeAt bytes start))
   pub row : (sheet : Sheet) (at start size next : ℕ) → fieldAt bytes at ≡ Field RowField start size next → P at sheet
-      → Kept (commonRules 3 (sheet .tally .last) (wrongRow bytes start size) (sheet .tally .rows)) → Kept (rowGapRules bytes (sheet .tally) (rowAt bytes start))
+      → Kept (commonRules 3 (sheet .tally .last) size (unlikeSet size (rowAt bytes start .followers)) (sheet .tally .rows)) → Kept (rowGapRules bytes (sheet .tally) (rowAt bytes start))
       → P next (withRow sheet (rowAt bytes start))
   pub task : (sheet : Sheet) (at start size next : ℕ) → fieldAt bytes at ≡ Field TaskField start size next → P at sheet
-      → Kept (commonRules 4 (sheet .tally .last) (wrongLength 4 size) (sheet .tally .tasks)) → Kept (taskRules (taskAt bytes start))
+      → Kept (commonRules 4 (sheet .tally .last) size false (sheet .tally .tasks)) → Kept (taskRules (taskAt bytes start))
       → P next (withTask sheet (taskAt bytes start))
   pub skipped : (sheet : Sheet) (at start size next : ℕ) → fieldAt bytes at ≡ Field SkippedField start size next → P at sheet → P next sheet
   pub accepted : (sheet : Sheet) (at start size next : ℕ) → fieldAt bytes at ≡ Field EndField start size next → P at sheet
@@ -86,7 +86,7 @@ module _ (bytes : List ℕ) (P : ℕ → Sheet → Type 0) (Q : Judged → Type 
   rest-keeps sheet RowField at start size next rest e p head own f = f (keeps .row sheet at start size next e p head own)
   rest-keeps sheet TaskField at start size next rest e p head own f = f (keeps .task sheet at start size next e p head own)
   rest-keeps sheet EndField at start size next rest e p head own f =
-      let says = common-says _ _ _ _ head in
+      let says = common-says _ _ _ _ _ head in
       end-keeps sheet at start size next e p (says .0) (says .1)
   rest-keeps sheet SkippedField at start size next rest e p head own f = f (keeps .skipped sheet at start size next e p)
 

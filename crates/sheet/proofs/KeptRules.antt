@@ -7,8 +7,8 @@ use mathlib.Core.Bool.{true, false, true≢false}
 use mathlib.Core.List.{List}
 use lib.Dec.{ltb, eqb}
 use lib.ListN.{getD}
-use borrow.Author.Tests.{ltb-false, eqb-false, ne-eqb}
-use Rattle.sets.specs.Sets.{bit, nextIn}
+use borrow.Author.Tests.{lt-ltb, ltb-false, eqb-false, ne-eqb}
+use Rattle.sets.specs.Sets.{width, bit, nextIn}
 use Rattle.sets.specs.declared.Next.{Next}
 use Rattle.sets.specs.declared.Next.the-variants.{At, Nothing}
 use Rattle.sets.proofs.Search.{next-none}
@@ -18,7 +18,7 @@ use Rattle.fields.specs.Fields.{lineOf}
 use Rattle.fields.specs.Limits.{gapSize}
 use Rattle.sheet.specs.Proper.{InRange}
 use Rattle.fields.specs.Reading.{wordAt}
-use Rattle.rules.specs.Rules.{outOfOrder, badRpm, noTicks, isAt, unknownIn, unknownFollower}
+use Rattle.rules.specs.Rules.{missing, outOfOrder, badRpm, noTicks, isAt, unknownIn, unknownFollower}
 use Rattle.sheet.specs.Content.{gapShorter}
 use Rattle.fields.specs.Values.{noRow}
 use Rattle.fields.specs.declared.units.Rpm.{Rpm}
@@ -28,16 +28,15 @@ use Rattle.fields.proofs.Deciding.{neither, any-false}
 
 -- 3: no required kind was passed over
 pub order-kept : (last tag k : ℕ) → outOfOrder last tag ≡ false → lineOf k .required ≡ true → k < tag → k ≤ last
-unfolding outOfOrder pick
+unfolding outOfOrder missing pick
 order-kept last tag k e r h = ⊎-elim (λ l. absurd (passed l)) (λ l. l) (lt-or last k)
   where
     passed : last < k → ⊥
     passed l =
         let other : eqb tag last ≡ false = ne-eqb tag last (λ (q : tag ≡ last). omega arith) in
         let rest = neither (ltb tag last) _ e .1 in
-        let none : lineOf k .required ≡ false =
-        any-false (λ passed. lineOf passed .required) (last + 1) (tag - (last + 1)) (rw other at rest) k (omega arith) (omega arith) in
-        true≢false (sym r ∙ none)
+        let none : missing last k ≡ false = any-false (missing last) 0 tag (rw other at rest) k (omega arith) (omega arith) in
+        true≢false (sym r ∙ (rw (lt-ltb last k l) at none))
 
 -- 7: a speed is in range, and a time is not 0
 pub rpm-kept : (speed : Rpm) → badRpm speed ≡ false → InRange speed
@@ -62,9 +61,9 @@ nothing Nothing e = refl
 
 -- 9: a follower below the width of a set is one of the sheet's rows
 pub followers-kept : (rows : List Row) (count : ℕ) → unknownFollower rows count ≡ false → (k : ℕ) → k < count
-    → (j : ℕ) → j < 64 → bit (getD rows k noRow .followers) j ≡ 1 → j < count
+    → (j : ℕ) → j < width → bit (getD rows k noRow .followers) j ≡ 1 → j < count
 unfolding unknownFollower unknownIn
 followers-kept rows count e k h j small set =
     let followers = getD rows k noRow .followers in
-    let none = nothing (nextIn (64 - count) followers count) (any-false _ 0 count e k (omega arith) (omega arith)) in
-    ⊎-elim (λ l. l) (λ l. absurd (omega (arith, set, next-none (64 - count) followers count none j l (omega arith)))) (lt-or j count)
+    let none = nothing (nextIn (width - count) followers count) (any-false _ 0 count e k (omega arith) (omega arith)) in
+    ⊎-elim (λ l. l) (λ l. absurd (omega (arith, set, next-none (width - count) followers count none j l (omega arith)))) (lt-or j count)

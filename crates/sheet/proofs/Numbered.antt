@@ -9,9 +9,9 @@ use Rattle.fields.specs.Deciding.{firstBroken}
 use Rattle.fields.specs.Fields.{lineOf, fields}
 use Rattle.sheet.specs.Judging.{headRules, ownRules, fieldRules}
 use Rattle.fields.specs.Limits.{headSize, gapSize, modeLimit, rowLimit, taskLimit}
-use Rattle.fields.specs.Reading.{longAt}
+use Rattle.fields.specs.Reading.{rowAt}
 use Rattle.rules.specs.Rules.{outOfOrder, wrongLength, unlikeSet, full, followerCount, commonRules, modeRules, rowRules, taskRules}
-use Rattle.sheet.specs.Content.{wrongRow, textRules, rowGapRules}
+use Rattle.sheet.specs.Content.{textRules, rowGapRules}
 use Rattle.fields.specs.declared.table.Kind.{Kind}
 use Rattle.fields.specs.declared.table.Kind.the-variants.{RefusedTag, LabelField, ModeField, RowField, TaskField, EndField, SkippedField}
 use Rattle.fields.specs.declared.values.Mode.{Mode}
@@ -20,15 +20,16 @@ use Rattle.fields.specs.declared.values.Task.{Task}
 use Rattle.fields.specs.declared.values.Tally.{Tally}
 use Rattle.fields.proofs.Deciding.{Kept, numbered, all-kept, neither, both-kept, both-numbered}
 
-module _ (tag last count : ℕ) (wrong : Bool) where
-  pub common-numbered : T (numbered (commonRules tag last wrong count))
+module _ (tag last size count : ℕ) (unlike : Bool) where
+  pub common-numbered : T (numbered (commonRules tag last size unlike count))
   unfolding commonRules
   common-numbered = tt
 
   -- the field is in order, its length is right, and there is room for one more
-  pub common-says : Kept (commonRules tag last wrong count) → (outOfOrder last tag ≡ false) × (wrong ≡ false) × (count < lineOf tag .most)
+  pub common-says : Kept (commonRules tag last size unlike count)
+      → (outOfOrder last tag ≡ false) × (wrongLength tag size ≡ false) × (unlike ≡ false) × (count < lineOf tag .most)
   unfolding commonRules full
-  common-says k = (k .0, k .1 .0, leb-false _ _ (k .1 .1 .0))
+  common-says k = (k .0, k .1 .0, k .1 .1 .0, leb-false _ _ (k .1 .1 .1 .0))
 
 pub mode-numbered : (tally : Tally) (mode : Mode) → T (numbered (modeRules tally mode))
 unfolding modeRules
@@ -46,33 +47,30 @@ pub long-enough : (tag size : ℕ) → wrongLength tag size ≡ false → lineOf
 unfolding wrongLength
 long-enough tag size e = ltb-false _ _ (neither _ _ e .0)
 
--- a field whose length the table alone decides: its content is long enough for its numbers, and there is room for one more
-pub common-fits : (tag last size count : ℕ) → Kept (commonRules tag last (wrongLength tag size) count) → (lineOf tag .shortest ≤ size) × (count < lineOf tag .most)
-common-fits tag last size count k =
-    let says = common-says tag last count (wrongLength tag size) k in
-    (long-enough tag size (says .1), says .2)
+-- a field's content is long enough for its numbers, and there is room for one more
+pub common-fits : (tag last size count : ℕ) (unlike : Bool) → Kept (commonRules tag last size unlike count) → (lineOf tag .shortest ≤ size) × (count < lineOf tag .most)
+common-fits tag last size count unlike k =
+    let says = common-says tag last size count unlike k in
+    (long-enough tag size (says .1), says .3)
 
 -- a row's length: its head, and a gap for each row of its set
-pub row-length : (bytes : List ℕ) (start size : ℕ) → wrongRow bytes start size ≡ false
-    → (8 ≤ size) × (size ≡ 8 + 2 * followerCount (longAt bytes (start + 4)))
-unfolding wrongRow unlikeSet lineOf fields
-row-length bytes start size e =
-    let n = neither _ _ e in
-    (long-enough 3 size (n .0), eqb-true _ _ (not-false _ (n .1)))
+pub row-length : (size followers : ℕ) → unlikeSet size followers ≡ false → size ≡ headSize + gapSize * followerCount followers
+unfolding unlikeSet
+row-length size followers e = eqb-true _ _ (not-false _ e)
 
 -- a row's content is as long as its head and its gaps, and there is room for one more row
 abbrev pub RowFits : List ℕ → Tally → ℕ → ℕ → Type 0
-RowFits bytes tally start size = (headSize ≤ size) × (size ≡ headSize + gapSize * followerCount (longAt bytes (start + 4))) × (tally .rows < rowLimit)
+RowFits bytes tally start size = (headSize ≤ size) × (size ≡ headSize + gapSize * followerCount (rowAt bytes start .followers)) × (tally .rows < rowLimit)
 
 module _ (bytes : List ℕ) (tally : Tally) (start size : ℕ) where
   pub head-numbered : (kind : Kind) → T (numbered (headRules bytes tally kind start size))
   unfolding headRules
   head-numbered RefusedTag = tt
-  head-numbered LabelField = common-numbered _ _ _ _
-  head-numbered ModeField = common-numbered _ _ _ _
-  head-numbered RowField = common-numbered _ _ _ _
-  head-numbered TaskField = common-numbered _ _ _ _
-  head-numbered EndField = common-numbered _ _ _ _
+  head-numbered LabelField = common-numbered _ _ _ _ _
+  head-numbered ModeField = common-numbered _ _ _ _ _
+  head-numbered RowField = common-numbered _ _ _ _ _
+  head-numbered TaskField = common-numbered _ _ _ _ _
+  head-numbered EndField = common-numbered _ _ _ _ _
   head-numbered SkippedField = tt
 
   own-numbered : (kind : Kind) → T (numbered (ownRules bytes tally kind start size))
@@ -102,17 +100,16 @@ module _ (bytes : List ℕ) (tally : Tally) (start size : ℕ) where
     -- a mode that breaks none of its first rules has its numbers, and there is room for one more
     pub mode-fits : kind ≡ ModeField → Kept (headRules bytes tally kind start size) → (4 ≤ size) × (tally .modes < modeLimit)
     unfolding headRules lineOf fields
-    mode-fits e k = common-fits 2 _ _ _ (rw e at k)
+    mode-fits e k = common-fits 2 _ _ _ _ (rw e at k)
 
     -- a row has its head and its gaps
     pub row-fits : kind ≡ RowField → Kept (headRules bytes tally kind start size) → RowFits bytes tally start size
     unfolding headRules lineOf fields
     row-fits e k =
-        let says = common-says _ _ _ _ (rw e at k) in
-        let long = row-length bytes start size (says .1) in
-        (long .0, long .1, says .2)
+        let says = common-says _ _ _ _ _ (rw e at k) in
+        (long-enough 3 size (says .1), row-length _ _ (says .2), says .3)
 
     -- a fixed task has its numbers
     pub task-fits : kind ≡ TaskField → Kept (headRules bytes tally kind start size) → (6 ≤ size) × (tally .tasks < taskLimit)
     unfolding headRules lineOf fields
-    task-fits e k = common-fits 4 _ _ _ (rw e at k)
+    task-fits e k = common-fits 4 _ _ _ _ (rw e at k)

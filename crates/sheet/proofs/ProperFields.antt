@@ -11,8 +11,8 @@ use Rattle.meaning.specs.Demand.{longestTime}
 use Rattle.fields.specs.Limits.{rowLimit}
 use Rattle.sheet.specs.Proper.{Bytes, Positive, ProperMode, ProperRow, ProperTask}
 use Rattle.fields.specs.Reading.{wordAt, longAt, ticksAt, modeAt, rowAt, taskAt}
-use Rattle.rules.specs.Rules.{noTicks, modeRules, rowRules, taskRules}
-use Rattle.sheet.specs.Content.{wrongRow, rowGapRules}
+use Rattle.rules.specs.Rules.{unlikeSet, noTicks, modeRules, rowRules, taskRules}
+use Rattle.sheet.specs.Content.{rowGapRules}
 use Rattle.fields.specs.declared.values.Mode.{Mode}
 use Rattle.fields.specs.declared.values.Row.{Row}
 use Rattle.fields.specs.declared.values.Tally.{Tally}
@@ -35,14 +35,14 @@ module _ (bytes : List ℕ) (fit : Bytes bytes) where
   unfolding modeRules
   mode-proper tally start k = record { boundary = rpm-kept _ (k .0); length = ticks-positive _ (k .1 .0) }
 
-  pub row-proper : (tally : Tally) (start size : ℕ) → start + size ≤ length bytes → wrongRow bytes start size ≡ false → Kept (rowGapRules bytes tally (rowAt bytes start))
+  pub row-proper : (tally : Tally) (start size : ℕ) → start + size ≤ length bytes → unlikeSet size (rowAt bytes start .followers) ≡ false → Kept (rowGapRules bytes tally (rowAt bytes start))
       → ProperRow bytes rowLimit (rowAt bytes start)
   unfolding rowGapRules rowRules
   row-proper tally start size inside right k =
       record {
         speed = rpm-kept _ (k .0);
         deadline = ticks-positive _ (k .1 .0);
-        gaps-inside = omega (arith, row-length bytes start size right);
+        gaps-inside = omega (arith, row-length _ _ right);
         gap-least = λ i h. gaps-kept bytes _ _ _ (k .1 .1 .1 .1 .1 .0) i h;
         gap-most = λ i h. word-most _;
         followers-exist = λ j set. bit-within rowLimit _ j (long-narrow (start + 4)) set;

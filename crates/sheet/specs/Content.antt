@@ -1,20 +1,16 @@
--- The rules of a field's content as it stands in the file: a label's bytes, a row's length and its gaps.
+-- The rules of a field's content as it stands in the file: a label's bytes and a row's gaps.
 use Prim.Native.Nat.{ℕ, _+_, _*_}
 use mathlib.Core.List.{List, [], _∷_}
 use mathlib.Core.Bool.{Bool}
 use lib.ListN.{getD}
 use lib.Dec.{ltb}
-use Rattle.fields.specs.Deciding.{Rule, _when_, _or_, anyFrom}
+use Rattle.fields.specs.Deciding.{Rule, _when_, anyFrom}
 use Rattle.fields.specs.Limits.{gapSize}
-use Rattle.fields.specs.Reading.{wordAt, longAt}
-use Rattle.rules.specs.Rules.{wrongLength, unlikeSet, followerCount, badByte, rowRules}
+use Rattle.fields.specs.Reading.{wordAt}
+use Rattle.rules.specs.Rules.{followerCount, badByte, rowRules}
 use Rattle.fields.specs.declared.units.Ticks.{Ticks}
 use Rattle.fields.specs.declared.values.Row.{Row}
 use Rattle.fields.specs.declared.values.Tally.{Tally}
-
--- rule 5 of a row whose content starts at a place: the table and its own set decide
-unfoldable pub wrongRow : List ℕ → ℕ → ℕ → Bool
-wrongRow bytes start size = wrongLength 3 size or unlikeSet size (longAt bytes (start + 4))
 
 -- rule 7: a label with a byte outside 0x20 to 0x7E
 unfoldable pub badText : List ℕ → ℕ → ℕ → Bool

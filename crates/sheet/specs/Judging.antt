@@ -1,7 +1,7 @@
 -- The judge: the rules of a field of each kind, what a field adds to the sheet, and the walk over the fields in file order.
 use Prim.Native.Nat.{ℕ, zero, suc, _+_}
 use mathlib.Core.List.{List, [], _∷_, _++_}
-use mathlib.Core.Bool.{true}
+use mathlib.Core.Bool.{true, false}
 use lib.ListN.{length, take, drop}
 use lib.Dec.{ltb}
 use Rattle.fields.specs.Deciding.{Rule, _when_, pick, judgedBy}
@@ -9,8 +9,8 @@ use Rattle.fields.specs.Fields.{isEnd}
 use Rattle.fields.specs.Reading.{fieldAt, modeAt, rowAt, taskAt}
 use Rattle.fields.specs.Values.{emptySheet}
 use Rattle.sheet.specs.Values.{withLabel, withMode, withRow, withTask}
-use Rattle.rules.specs.Rules.{wrongLength, unknownFollower, commonRules, modeRules, taskRules}
-use Rattle.sheet.specs.Content.{wrongRow, textRules, rowGapRules}
+use Rattle.rules.specs.Rules.{unlikeSet, unknownFollower, commonRules, modeRules, taskRules}
+use Rattle.sheet.specs.Content.{textRules, rowGapRules}
 use Rattle.fields.specs.declared.table.Kind.{Kind}
 use Rattle.fields.specs.declared.table.Kind.the-variants.{RefusedTag, LabelField, ModeField, RowField, TaskField, EndField, SkippedField}
 use Rattle.fields.specs.declared.reader.Step.{Step}
@@ -35,14 +35,14 @@ placeOf (Refused number place) = place
 unfoldable pub refusal : ℕ → ℕ → Judged
 refusal number place = record { answer = Refused number place; sheet = emptySheet }
 
--- the first rules of a field of each kind: its place in the order, its length, its count; label and end are not counted, since rules 3 and 4 keep a second one out, and a refused tag is refused by the reader already, by rule 2
+-- the first rules of a field of each kind: its place in the order, its length, on which a row's own follower set has a say too, its count; label and end are not counted, since rules 3 and 4 keep a second one out, and a refused tag is refused by the reader already, by rule 2
 unfoldable pub headRules : List ℕ → Tally → Kind → ℕ → ℕ → List Rule
 headRules bytes tally RefusedTag start size = 2 when true ∷ []
-headRules bytes tally LabelField start size = commonRules 1 (tally .last) (wrongLength 1 size) 0
-headRules bytes tally ModeField start size = commonRules 2 (tally .last) (wrongLength 2 size) (tally .modes)
-headRules bytes tally RowField start size = commonRules 3 (tally .last) (wrongRow bytes start size) (tally .rows)
-headRules bytes tally TaskField start size = commonRules 4 (tally .last) (wrongLength 4 size) (tally .tasks)
-headRules bytes tally EndField start size = commonRules 5 (tally .last) (wrongLength 5 size) 0
+headRules bytes tally LabelField start size = commonRules 1 (tally .last) size false 0
+headRules bytes tally ModeField start size = commonRules 2 (tally .last) size false (tally .modes)
+headRules bytes tally RowField start size = commonRules 3 (tally .last) size (unlikeSet size (rowAt bytes start .followers)) (tally .rows)
+headRules bytes tally TaskField start size = commonRules 4 (tally .last) size false (tally .tasks)
+headRules bytes tally EndField start size = commonRules 5 (tally .last) size false 0
 headRules bytes tally SkippedField start size = []
 
 -- then those of its bytes and numbers

@@ -19,7 +19,6 @@ use rules::row_number;
 use rules::task_number;
 use rules::unknown_follower;
 use rules::unlike_set;
-use rules::wrong_length;
 ghost use mathlib.Core.Path.{_≡_};
 ghost use Prim.Native.Nat.{_+_, _*_, _<_, _≤_};
 ghost use lib.ListN.{length};
@@ -27,7 +26,7 @@ ghost use Rattle.fields.specs.Deciding.{firstBroken};
 ghost use Rattle.fields.specs.Limits.{modeLimit, rowLimit, taskLimit, headSize, gapSize};
 ghost use Rattle.fields.specs.Reading.{modeAt, rowAt, taskAt};
 ghost use Rattle.rules.specs.Rules.{followerCount};
-ghost use Rattle.sheet.specs.Content.{badText, gapShorter, wrongRow, textRules, rowGapRules};
+ghost use Rattle.sheet.specs.Content.{badText, gapShorter, textRules, rowGapRules};
 ghost use Rattle.sheet.specs.Values.{withLabel, withMode, withRow, withTask};
 ghost use Rattle.sheet.specs.Judging.{refusal, headRules, ownRules, fieldRules, withField, endJudged};
 
@@ -50,11 +49,14 @@ fn head_number(bytes: &[u8], tally: Tally, kind: Kind, start: usize, size: usize
 {
     match kind {
         Kind::RefusedTag => 2,
-        Kind::LabelField => common_number(1, tally.last, wrong_length(1, size), 0),
-        Kind::ModeField => common_number(2, tally.last, wrong_length(2, size), tally.modes),
-        Kind::RowField => common_number(3, tally.last, wrong_row(bytes, start, size), tally.rows),
-        Kind::TaskField => common_number(4, tally.last, wrong_length(4, size), tally.tasks),
-        Kind::EndField => common_number(5, tally.last, wrong_length(5, size), 0),
+        Kind::LabelField => common_number(1, tally.last, size, false, 0),
+        Kind::ModeField => common_number(2, tally.last, size, false, tally.modes),
+        Kind::RowField => {
+            let unlike = unlike_set(size, long_at(bytes, start + 4));
+            common_number(3, tally.last, size, unlike, tally.rows)
+        }
+        Kind::TaskField => common_number(4, tally.last, size, false, tally.tasks),
+        Kind::EndField => common_number(5, tally.last, size, false, 0),
         Kind::SkippedField => 0,
     }
 }
@@ -153,27 +155,15 @@ fn bad_text(bytes: &[u8], start: usize, size: usize) -> bool
     false
 }
 
-// Rule 5 of a row, whose length the table and its own set decide.
-fn wrong_row(bytes: &[u8], start: usize, size: usize) -> bool
-    requires { ⌜ start + size ≤ length (now bytes) ⌝ }
-    ensures { λ r. ⌜ r ≡ wrongRow (now (bytes .entry)) start size ⌝ }
-{
-    if wrong_length(3, size) {
-        return true;
-    }
-    let followers = long_at(bytes, start + 4);
-    unlike_set(size, followers)
-}
-
 // The rules of a row's numbers and gaps.
 fn row_gap_number(bytes: &[u8], tally: Tally, row: Row) -> u8
     requires { ⌜ row .gaps + gapSize * followerCount (row .followers) ≤ length (now bytes) ⌝ }
     ensures { λ r. ⌜ r ≡ firstBroken (rowGapRules (now (bytes .entry)) tally row) ⌝ }
 {
     let gaps = sets::size(row.followers);
-    let zero = gap_shorter(bytes, row.gaps, gaps, Ticks(1));
-    let short = gap_shorter(bytes, row.gaps, gaps, row.deadline);
-    row_number(tally, row, zero, short)
+    let zero_gap = gap_shorter(bytes, row.gaps, gaps, Ticks(1));
+    let short_gap = gap_shorter(bytes, row.gaps, gaps, row.deadline);
+    row_number(tally, row, zero_gap, short_gap)
 }
 
 // Rule 7 and rule 10 of gaps: whether one of `count` from a place on is shorter than a bound.

@@ -107,7 +107,7 @@ fn time_via(gap: Ticks, after: u32) -> u32
     ensures { λ r. ⌜ r ≡ timeOrNone (gap .0 + after) ⌝ }
 {
     let first = gap.0 as u32;
-    if Sheet::TICKS as u32 - first < after {
+    if Sheet::TICKS.0 as u32 - first < after {
         return NO_TIME;
     }
     first + after

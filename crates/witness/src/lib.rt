@@ -2,7 +2,7 @@
 use fields::values::Row;
 use fields::values::Sheet;
 use sets::Next;
-use sets::gap_place;
+use sets::below_row;
 use sets::next_from;
 use tables::interval::added;
 use tables::interval::demand_of;
@@ -124,7 +124,10 @@ fn onward(bytes: &[u8], cells: &[u32], row: Row, own: u32, n: usize, stand: Stan
     let left = stand.left;
     let want = stand.work - own;
     let next = next_row(bytes, cells, row, n, left, want);
-    let gap = gap_at(bytes, row.gaps + gap_place(row.followers, next));
+    let gap = gap_at(
+        bytes,
+        row.gaps + Sheet::GAP * below_row(row.followers, next),
+    );
     Stand {
         row: next,
         left: left - gap.0 as usize,

@@ -12,8 +12,10 @@ common-number-spec =
     tie.close
     (tie.spec
     (λ c κs. search needs)
+    (λ c. search judging depth 7)
     (λ c κs. search needs)
-    (λ c. search judging)
-    (λ c. search judging)
-    (λ c. search judging)
-    (λ c. search judging))
+    (λ c. search judging depth 7)
+    (λ c. search judging depth 7)
+    (λ c κs. search needs)
+    (λ c. search judging depth 7)
+    (λ c. search judging depth 7))

@@ -13,6 +13,7 @@ mode-number-spec =
     (tie.spec
     (λ c κs. search needs)
     (λ c. search judging depth 7)
+    (λ c κs. search needs)
     (λ c. search judging depth 7)
     (λ c κs. search needs)
     (λ c. search judging depth 7)

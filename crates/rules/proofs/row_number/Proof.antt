@@ -6,6 +6,11 @@ use Rattle.rules.specs.Rules.{rowRules}
 use borrow.Author.Needs.{needs}
 use Rattle.rules.proofs.row_number.Tie as tie
 
+-- where no test holds, no rule is broken
+returns-7 : tie.Need-returns-7
+unfolding rowRules firstBroken
+returns-7 c = search judging depth 9
+
 pub row-number-spec : {M : Type 1} → statement M
 unfolding rowRules firstBroken
 row-number-spec =
@@ -13,6 +18,7 @@ row-number-spec =
     (tie.spec
     (λ c κs. search needs)
     (λ c. search judging depth 9)
+    (λ c κs. search needs)
     (λ c. search judging depth 9)
     (λ c. search judging depth 9)
     (λ c κs. search needs)
@@ -20,4 +26,4 @@ row-number-spec =
     (λ c κs. search needs)
     (λ c. search judging depth 9)
     (λ c. search judging depth 9)
-    (λ c. search judging depth 9))
+    returns-7)

@@ -2,6 +2,7 @@
 use Rattle.fields.proofs.Deciding.{judging}
 use Rattle.fields.specs.Deciding.{firstBroken}
 use Rattle.rules.proofs.task_number.Statement.{statement}
+use borrow.Author.Needs.{needs}
 use Rattle.rules.proofs.task_number.Tie as tie
 use Rattle.rules.specs.Rules.{taskRules}
 
@@ -10,7 +11,10 @@ unfolding taskRules firstBroken
 task-number-spec =
     tie.close
     (tie.spec
+    (λ c κs. search needs)
     (λ c. search judging depth 7)
+    (λ c κs. search needs)
     (λ c. search judging depth 7)
+    (λ c κs. search needs)
     (λ c. search judging depth 7)
     (λ c. search judging depth 7))

@@ -10,13 +10,13 @@ returns c =
     let all = c .size .ensures in
     (all .0 ∙ sym (below-past 64 (c .before .before .args .set) (c .before .before .args .row) (search needs) (c .before .if1 .taken)), all .1)
 
-rem-size : tie.Need-rem-size
-rem-size c = mask-pos 64 (c .before .args .set) (c .before .args .row) (search needs) (search needs)
-
 returns-2 : tie.Need-returns-2
 returns-2 c =
     let low = c .size2 .ensures in
     (low .0 ∙ below-low 64 (c .before .before .args .set) (c .before .before .args .row) (search needs) (search needs), low .1)
+
+rem-size : tie.Need-rem-size
+rem-size c = mask-pos 64 (c .before .args .set) (c .before .args .row) (search needs) (search needs)
 
 pub below-row-spec : {M : Type 1} → statement M
 below-row-spec =

@@ -1,5 +1,5 @@
 -- `onward` meets its contract. The row that leads on adds some work, so that it is a follower and its gap fits.
-use Prim.Native.Nat.{ℕ, _+_, _-_, _^_, _<_}
+use Prim.Native.Nat.{ℕ, _+_, _-_, _*_, _^_, _<_}
 use borrow.Author.Needs.{needs}
 use denote.Ref.{now}
 use mathlib.Core.Path.{_≡_, sym, ap, _∙_}
@@ -7,6 +7,7 @@ use native.Mathlib.Omega.{arith}
 use Rattle.sets.specs.Sets.{bit}
 use Rattle.meaning.specs.Computed.{cellAt}
 use Rattle.sheet.specs.Meaning.{gapOf}
+use Rattle.fields.specs.Limits.{gapSize}
 use Rattle.fields.specs.Reading.{wordAt}
 use Rattle.witness.specs.Stands.{onwardOf}
 use Rattle.tables.proofs.Followers.{gap-of-follower, gap-inside}
@@ -40,17 +41,17 @@ gap-is c =
     let next = c .before .before .before in
     let a = next .before .before .before .before .args in
     ap (λ r. r .0) (c .gap-at .ensures)
-    ∙ ap (λ (x : ℕ). wordAt (now (a .bytes)) (a .row .gaps + x)) (c .before .before .gap-place .ensures .0)
+    ∙ ap (λ (x : ℕ). wordAt (now (a .bytes)) (a .row .gaps + gapSize * x)) (c .before .before .below-row .ensures .0)
     ∙ sym (gap-of-follower (now (a .bytes)) (a .row) _ (follows next))
 
 gap-at-requires : tie.Need-gap-at-requires
 gap-at-requires c κs =
     let next = c .before .before in
     let b = next .before .before .before .before in
-    omega (arith, c .before .gap-place .ensures .0, gap-inside _ _ _ (b .pre .0) (set-fits b) (next .next-row .result) (follows next))
+    omega (arith, c .before .below-row .ensures .0, gap-inside _ _ _ (b .pre .0) (set-fits b) (next .next-row .result) (follows next))
 
-sub-t12 : tie.Need-sub-t12
-sub-t12 c =
+sub-t13 : tie.Need-sub-t13
+sub-t13 c =
     let next = c .before .before .before .before in
     let b = next .before .before .before .before in
     rw (gap-is (c .before)) (leads-on _ (gapOf (now (b .args .bytes)) (b .args .row)) (cellAt (b .args .n) (now (b .args .cells))) _ _ (wanted b) _ (found next) (next .next-row .ensures) .1)
@@ -67,7 +68,8 @@ onward-spec =
     (λ c κs. search needs)
     (λ c κs. search needs)
     (λ c. search needs)
+    (λ c. search needs)
     gap-at-requires
     (λ c. search needs)
-    sub-t12
+    sub-t13
     returns)

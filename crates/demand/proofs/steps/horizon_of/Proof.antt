@@ -9,12 +9,12 @@ use Rattle.demand.proofs.steps.horizon_of.Tie as tie
 
 sub-result : tie.Need-sub-result
 sub-result c =
-    let b = c .before in
+    let b = c .before .before in
     fit-lines (b .args .cells) (b .args .rows) 1 (b .pre .0) (omega (arith, b .pre .1))
 
 returns : tie.Need-returns
 returns c =
-    let b = c .before in
+    let b = c .before .before in
     record {
       in-range = omega arith;
       fits = lines-fit (b .args .cells) (b .args .rows) (longestTime + 1) (b .pre .0) (c .if1 .taken);
@@ -23,7 +23,7 @@ returns c =
 
 returns-2 : tie.Need-returns-2
 returns-2 c =
-    let b = c .before in
+    let b = c .before .before in
     let lines = b .args .cells / b .args .rows in
     let some : 1 ≤ lines = sub-result c in
     record {

@@ -12,23 +12,25 @@ returns c = rw (c .enum-told .given .1) refl
 
 returns-2 : tie.Need-returns-2
 unfolding headRules
-returns-2 c = rw (c .before .before .enum-told2 .given .1, ← c .before .wrong-length .ensures) (c .common-number .ensures)
+returns-2 c = rw (c .before .enum-told2 .given .1) (c .common-number .ensures)
 
 returns-3 : tie.Need-returns-3
 unfolding headRules
-returns-3 c = rw (c .before .before .enum-told3 .given .1, ← c .before .wrong-length2 .ensures) (c .common-number2 .ensures)
+returns-3 c = rw (c .before .enum-told3 .given .1) (c .common-number2 .ensures)
 
 returns-4 : tie.Need-returns-4
 unfolding headRules
-returns-4 c = rw (c .before .before .enum-told4 .given .1, ← c .before .wrong-row .ensures) (c .common-number3 .ensures)
+returns-4 c =
+    let row = c .before .before .before in
+    rw (row .enum-told4 .given .1, ← c .before .before .long-at .ensures, ← c .before .unlike-set .ensures) (c .common-number3 .ensures)
 
 returns-5 : tie.Need-returns-5
 unfolding headRules
-returns-5 c = rw (c .before .before .enum-told5 .given .1, ← c .before .wrong-length3 .ensures) (c .common-number4 .ensures)
+returns-5 c = rw (c .before .enum-told5 .given .1) (c .common-number4 .ensures)
 
 returns-6 : tie.Need-returns-6
 unfolding headRules
-returns-6 c = rw (c .before .before .enum-told6 .given .1, ← c .before .wrong-length4 .ensures) (c .common-number5 .ensures)
+returns-6 c = rw (c .before .enum-told6 .given .1) (c .common-number5 .ensures)
 
 returns-7 : tie.Need-returns-7
 unfolding headRules firstBroken
@@ -41,18 +43,16 @@ head-number-spec =
     (λ c. search needs)
     (λ c. search needs)
     (λ c κs. search needs)
-    (λ c κs. search needs)
     (λ c. search needs)
     (λ c κs. search needs)
-    (λ c κs. search needs)
+    (λ c. search needs)
     (λ c. search needs)
     (λ c κs. search needs)
-    (λ c κs. search needs)
-    (λ c. search needs)
     (λ c κs. search needs)
     (λ c κs. search needs)
     (λ c. search needs)
     (λ c κs. search needs)
+    (λ c. search needs)
     (λ c κs. search needs)
     (λ c. search needs)
     returns

@@ -8,10 +8,10 @@ use native.Mathlib.Omega.{arith}
 use Rattle.tables.proofs.amount.time_via.Tie as tie
 
 returns : tie.Need-returns
-returns c = sym (time-none (c .before .before .args .gap .0 + c .before .before .args .after) (omega arith))
+returns c = sym (time-none (c .before .before .before .args .gap .0 + c .before .before .before .args .after) (omega arith))
 
 returns-2 : tie.Need-returns-2
-returns-2 c = sym (time-kept (c .before .before .args .gap .0 + c .before .before .args .after) (omega arith))
+returns-2 c = sym (time-kept (c .before .before .before .args .gap .0 + c .before .before .before .args .after) (omega arith))
 
 pub time-via-spec : {M : Type 1} → statement M
 time-via-spec =
