@@ -2,6 +2,7 @@
 use Prim.Native.Nat.{ℕ}
 use mathlib.Core.Path.{_≡_, sym, ap, _∙_}
 use mathlib.Core.List.{List}
+use Rattle.fields.proofs.Determined.{Determines, one-value}
 use Rattle.desk.specs.Calls.{MarginCall, ShortestCall, VerdictByIntervalCall, VerdictByAmountCall}
 use Rattle.desk.proofs.Determined.{demand-determined, margin-determined, shortest-determined, verdict-by-interval-determined, verdict-by-amount-determined}
 use Rattle.numbers.specs.Flat.{flatDemand, flatMargin, flatShortest, flatVerdict}
@@ -10,6 +11,22 @@ use Rattle.numbers.specs.declared.DemandForC.{DemandForC}
 use Rattle.numbers.specs.declared.MarginForC.{MarginForC}
 use Rattle.numbers.specs.declared.ShortestForC.{ShortestForC}
 use Rattle.numbers.specs.declared.VerdictForC.{VerdictForC}
+use Rattle.marnipode.proofs.marnipode_judge.Kinds as judge
+use Rattle.marnipode.proofs.marnipode_judge.Reads as judge-reads
+use Rattle.marnipode.proofs.marnipode_label.Kinds as label
+use Rattle.marnipode.proofs.marnipode_label.Reads as label-reads
+use Rattle.marnipode.proofs.marnipode_field_at.Kinds as field-at
+use Rattle.marnipode.proofs.marnipode_field_at.Reads as field-at-reads
+
+-- the three exports that take no cells: the contract says which struct it is
+pub judge-export-one : Determines 1 judge.ps judge.r judge-reads.Learnt (λ κs x. x)
+judge-export-one = one-value 1 judge.ps judge.r (λ κs x. x) _
+
+pub label-export-one : Determines 1 label.ps label.r label-reads.Learnt (λ κs x. x)
+label-export-one = one-value 1 label.ps label.r (λ κs x. x) _
+
+pub field-at-export-one : Determines 1 field-at.ps field-at.r field-at-reads.Learnt (λ κs x. x)
+field-at-export-one = one-value 1 field-at.ps field-at.r (λ κs x. x) _
 
 -- one answer has one struct of numbers
 same-numbers : {A N : Type 0} (flat : A → N) (x y : A) (n m : N) → x ≡ y → n ≡ flat x → m ≡ flat y → n ≡ m

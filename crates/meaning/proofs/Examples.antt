@@ -7,7 +7,7 @@ use native.Mathlib.Omega.{arith}
 use lib.ListN.{length, getD}
 use Rattle.meaning.specs.Graph.{Graph, Sound}
 use Rattle.meaning.specs.Sequence.{Allowed, endTime, amount}
-use Rattle.meaning.specs.Extreme.{Before}
+use Rattle.meaning.specs.Extreme.{NoLater}
 use Rattle.meaning.specs.Demand.{IsDemand, IsWitness}
 use Rattle.meaning.specs.Fixed.{fixedOf, fixedSum}
 use Rattle.meaning.specs.Verdict.{Meets}
@@ -83,8 +83,8 @@ pub going-back-is-worst : IsDemand bothWays 15498 13 × IsWitness bothWays 15498
 unfolding stepAt bestWithin best demandOf restWithin witnessOf
 going-back-is-worst = (demand-of bothWays both-ways-sound 15498, witness-of bothWays both-ways-sound 15498)
 
--- of rows that are alike the lower one comes first
-pub lower-first : Before (0 ∷ []) (1 ∷ [])
+-- of rows that are alike the lower one is no later
+pub lower-first : NoLater (0 ∷ []) (1 ∷ [])
 lower-first = inl (omega arith)
 
 -- so it is the witness

@@ -6,7 +6,7 @@ use Prim.Native.Nat.{ℕ}
 use native.Mathlib.Omega.{arith}
 use Rattle.meaning.specs.Graph.{Graph}
 use Rattle.meaning.specs.Sequence.{endFrom, amountFrom, endTime, amount}
-use Rattle.meaning.specs.Extreme.{Largest, Smallest, Before, First}
+use Rattle.meaning.specs.Extreme.{Largest, Smallest, NoLater, First}
 use Rattle.meaning.specs.Demand.{noTime, InTime, Enough, Attains, IsDemand, IsWitness, IsShortest}
 use Rattle.meaning.specs.Cells.{InTimeFrom, EnoughFrom, IsBestFrom, IsLeastFrom}
 
@@ -32,22 +32,22 @@ smallest-unique P f none r q a b =
     (λ u. ⊎-elim (λ v. absurd (u .1 (v .0) (v .1))) (λ v. omega (arith, u .0, v .0)) (b .reached))
     (a .reached)
 
--- two lists that come before each other are one
-pub before-both : (w v : List ℕ) → Before w v → Before v w → w ≡ v
-before-both [] [] p q = refl
-before-both [] (b ∷ v) p q = absurd q
-before-both (a ∷ w) [] p q = absurd p
-before-both (a ∷ w) (b ∷ v) (inl l) (inl m) = absurd (omega arith)
-before-both (a ∷ w) (b ∷ v) (inl l) (inr m) = absurd (omega (arith, m .0))
-before-both (a ∷ w) (b ∷ v) (inr l) (inl m) = absurd (omega (arith, l .0))
-before-both (a ∷ w) (b ∷ v) (inr l) (inr m) =
-    let e : w ≡ v = before-both w v (l .1) (m .1) in
+-- two lists of which neither is later are one
+pub no-later-both : (w v : List ℕ) → NoLater w v → NoLater v w → w ≡ v
+no-later-both [] [] p q = refl
+no-later-both [] (b ∷ v) p q = absurd q
+no-later-both (a ∷ w) [] p q = absurd p
+no-later-both (a ∷ w) (b ∷ v) (inl l) (inl m) = absurd (omega arith)
+no-later-both (a ∷ w) (b ∷ v) (inl l) (inr m) = absurd (omega (arith, m .0))
+no-later-both (a ∷ w) (b ∷ v) (inr l) (inl m) = absurd (omega (arith, l .0))
+no-later-both (a ∷ w) (b ∷ v) (inr l) (inr m) =
+    let e : w ≡ v = no-later-both w v (l .1) (m .1) in
     let d : a ≡ b = l .0 in
     cc
 
 -- there is one first list
 pub first-unique : (P : List ℕ → Type 0) (w v : List ℕ) → First P w → First P v → w ≡ v
-first-unique P w v a b = before-both w v (a .least v (b .allowed)) (b .least w (a .allowed))
+first-unique P w v a b = no-later-both w v (a .least v (b .allowed)) (b .least w (a .allowed))
 
 module _ (g : Graph) where
   -- there is one demand at t

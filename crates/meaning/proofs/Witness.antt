@@ -7,7 +7,7 @@ use native.Mathlib.Nat.{eq-or-lt-of-le}
 use native.Mathlib.Omega.{arith}
 use Rattle.meaning.specs.Graph.{Graph, Sound}
 use Rattle.meaning.specs.Sequence.{amountFrom}
-use Rattle.meaning.specs.Extreme.{Before, First}
+use Rattle.meaning.specs.Extreme.{NoLater, First}
 use Rattle.meaning.specs.Demand.{Attains, IsDemand, IsWitness}
 use Rattle.meaning.specs.Cells.{InTimeFrom, IsBestFrom}
 use Rattle.meaning.proofs.Tests.{lt-or}
@@ -71,10 +71,10 @@ module _ (g : Graph) (s k r : ℕ) (hk : k < g .rows) where
       least = go;
     }
       where
-        same : (v : List ℕ) → AttainsFrom g k s r (j ∷ v) → Before rest v
+        same : (v : List ℕ) → AttainsFrom g k s r (j ∷ v) → NoLater rest v
         same v h = first .least v ((h .0 .0 .2, omega (arith, h .0 .1)), omega (arith, h .1))
 
-        go : (v : List ℕ) → AttainsFrom g k s r v → Before (j ∷ rest) v
+        go : (v : List ℕ) → AttainsFrom g k s r v → NoLater (j ∷ rest) v
         go [] h = absurd (omega (arith, h .1))
         go (i ∷ v) h =
             ⊎-elim
@@ -104,7 +104,7 @@ module _ (g : Graph) (t d : ℕ) (cell : ℕ → ℕ) (right : (i : ℕ) → i <
   pub start : (k : ℕ) → ((i : ℕ) → i < k → cell i ≡ d → ⊥) → (rest : List ℕ) → First (AttainsFrom g k t d) rest → IsWitness g t (k ∷ rest)
   start k earlier rest first = (d, demand, inr (p, record { allowed = first .allowed; least = go }))
     where
-      go : (v : List ℕ) → Attains g t d v → Before (k ∷ rest) v
+      go : (v : List ℕ) → Attains g t d v → NoLater (k ∷ rest) v
       go [] h = absurd (h .0 .0)
       go (i ∷ v) h =
           ⊎-elim

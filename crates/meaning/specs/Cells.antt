@@ -24,13 +24,17 @@ EnoughFrom g k a rest = AllowedFrom g k rest × (a ≤ amountFrom g k rest) × (
 abbrev pub IsLeastFrom : Graph → ℕ → ℕ → ℕ → Type 0
 IsLeastFrom g k a v = Smallest (EnoughFrom g k a) (endFrom g k) noTime v
 
--- the table by interval: its line s has the cells of the interval s
+-- the table by interval: the line s has the cells of the interval s
 abbrev pub ByInterval : Graph → ℕ → ℕ → ℕ → Type 0
 ByInterval g s k v = IsBestFrom g k s v
 
--- the table by amount: amounts count from 1, so its line i has the cells of the amount i + 1
+-- the amount of a line: lines count from 0 and amounts from 1
+abbrev pub amountOf : ℕ → ℕ
+amountOf line = line + 1
+
+-- the table by amount: a line has the cells of its amount
 abbrev pub ByAmount : Graph → ℕ → ℕ → ℕ → Type 0
-ByAmount g i k v = IsLeastFrom g k (i + 1) v
+ByAmount g line k v = IsLeastFrom g k (amountOf line) v
 
 -- an area in lines of n cells: the first `used` cells are right, as `Right line k v` says of the value v of row k in a line, and the others keep what they held
 pub record Filled (n : ℕ) (Right : ℕ → ℕ → ℕ → Type 0) (old new : List ℕ) (used : ℕ) : Type 0 where

@@ -14,13 +14,13 @@ pub record Smallest (P : List ℕ → Type 0) (f : List ℕ → ℕ) (none r : �
   pub bound : (w : List ℕ) → P w → r ≤ f w
   pub reached : ((w : List ℕ) × P w × (f w ≡ r)) ⊎ ((r ≡ none) × ((w : List ℕ) → P w → ⊥))
 
--- row order: the lower row number at the first difference comes before, and a list comes before one that goes on from it
-abbrev pub Before : List ℕ → List ℕ → Type 0
-Before [] v = Unit {0}
-Before (a ∷ w) [] = ⊥
-Before (a ∷ w) (b ∷ v) = (a < b) ⊎ ((a ≡ b) × Before w v)
+-- in row order w is no later than v: they are the same, or w has the lower row number at the first difference, or v goes on from w
+abbrev pub NoLater : List ℕ → List ℕ → Type 0
+NoLater [] v = Unit {0}
+NoLater (a ∷ w) [] = ⊥
+NoLater (a ∷ w) (b ∷ v) = (a < b) ⊎ ((a ≡ b) × NoLater w v)
 
--- w has P, and in row order it comes before every other list that has it
+-- w has P, and in row order no list that has P comes before it
 pub record First (P : List ℕ → Type 0) (w : List ℕ) : Type 0 where
   pub allowed : P w
-  pub least : (v : List ℕ) → P v → Before w v
+  pub least : (v : List ℕ) → P v → NoLater w v

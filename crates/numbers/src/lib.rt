@@ -71,22 +71,18 @@ pub fn judge_numbers(judged: Judged) -> JudgeForC
     let answer = judged.answer;
     let sheet = judged.sheet;
     let tally = sheet.tally;
-    match answer {
-        Answer::Accepted => JudgeForC {
-            number: 0,
-            place: 0,
-            modes: tally.modes,
-            rows: tally.rows,
-            tasks: tally.tasks,
-        },
-        Answer::Refused { number, place } => JudgeForC {
-            number: number,
-            place: place,
-            modes: tally.modes,
-            rows: tally.rows,
-            tasks: tally.tasks,
-        },
+    let mut judge = JudgeForC {
+        number: 0,
+        place: 0,
+        modes: tally.modes,
+        rows: tally.rows,
+        tasks: tally.tasks,
+    };
+    if let Answer::Refused { number, place } = answer {
+        judge.number = number;
+        judge.place = place;
     }
+    judge
 }
 
 pub fn label_numbers(judged: Judged) -> LabelForC
@@ -199,21 +195,20 @@ pub fn shortest_numbers(answer: ShortestAnswer) -> ShortestForC
 pub fn verdict_numbers(answer: VerdictAnswer) -> VerdictForC
     ensures { λ r. ⌜ r ≡ flatVerdict answer ⌝ }
 {
+    let mut verdict = VerdictForC {
+        number: 0,
+        place: 0,
+        overrun: 0,
+    };
     match answer {
-        VerdictAnswer::Holds => VerdictForC {
-            number: 0,
-            place: 0,
-            overrun: 0,
-        },
-        VerdictAnswer::Overrun { interval } => VerdictForC {
-            number: 0,
-            place: 0,
-            overrun: interval,
-        },
-        VerdictAnswer::Refused { number, place } => VerdictForC {
-            number: number,
-            place: place,
-            overrun: 0,
-        },
+        VerdictAnswer::Holds => {}
+        VerdictAnswer::Overrun { interval } => {
+            verdict.overrun = interval;
+        }
+        VerdictAnswer::Refused { number, place } => {
+            verdict.number = number;
+            verdict.place = place;
+        }
     }
+    verdict
 }

@@ -88,13 +88,14 @@ module _ {ℓ} {A : Type ℓ} (f : ℕ → A → A) (a : A) (followers first res
         followed .inside,
       )
 
-  -- with its row done the next turn begins
-  pub passing-next : (other : A) → other ≡ f (trailingZeros 64 rest) acc → Passing f a followers first (bitAnd rest (rest - 1)) (place + gapSize) other
-  passing-next other e =
+  -- with its row done, and the place two bytes on, the next turn begins
+  pub passing-next : (after : ℕ) (other : A) → after ≡ place + gapSize → other ≡ f (trailingZeros 64 rest) acc
+      → Passing f a followers first (bitAnd rest (rest - 1)) after other
+  passing-next after other two e =
       let next = left-next f a 64 followers rest acc fits (p .left) some in
       let same = left-same f a 64 followers (bitAnd rest (rest - 1)) (f (trailingZeros 64 rest) acc) other e next in
       record {
         left = same .0;
         next-gap =
-            omega (arith, p .next-gap, left-below-next f a 64 followers rest acc fits (p .left) some, ap (below followers) (same .1));
+            omega (arith, two, p .next-gap, left-below-next f a 64 followers rest acc fits (p .left) some, ap (below followers) (same .1));
       }

@@ -1,4 +1,4 @@
-// The table by amount: its line i has, for each row, the smallest end time of a sequence from that row with amount at least i + 1.
+// The table by amount: a line has, for each row, the smallest end time of a sequence from that row with at least the line's amount. Lines count from 0 and amounts from 1.
 use crate::interval::gap_at;
 use crate::interval::job_lengths;
 use fields::units::Ticks;
@@ -7,7 +7,7 @@ use fields::values::Sheet;
 ghost use mathlib.Core.Path.{_≡_};
 ghost use Prim.Native.Nat.{_+_, _*_, _≤_, min};
 ghost use lib.ListN.{length};
-ghost use Rattle.meaning.specs.Cells.{ByAmount, Filled};
+ghost use Rattle.meaning.specs.Cells.{ByAmount, Filled, amountOf};
 ghost use Rattle.meaning.specs.Computed.{cellFor, leastAt, minBelow, timeOrNone};
 ghost use Rattle.meaning.specs.Demand.{noTime};
 ghost use Rattle.sheet.specs.Meaning.{gapOf, graphOf};
@@ -66,7 +66,7 @@ fn least_cell(bytes: &[u8], cells: &[u32], row: Row, work: u32, n: usize, line: 
     requires { ⌜ ProperRow (now bytes) n row ⌝ }
     requires { ⌜ 1 ≤ work ⌝ }
     requires { ⌜ n * line ≤ length (now cells) ⌝ }
-    ensures { λ r. ⌜ r ≡ leastAt n work (row .deadline .0) (gapOf (now (bytes .entry)) row) (cellFor n (now (cells .entry))) (line + 1) ⌝ }
+    ensures { λ r. ⌜ r ≡ leastAt n work (row .deadline .0) (gapOf (now (bytes .entry)) row) (cellFor n (now (cells .entry))) (amountOf line) ⌝ }
 {
     let back = work as usize;
     if line < back {

@@ -27,6 +27,12 @@ within c =
     let b = c .before .before in
     in-lines (b .args .n) (b .args .t) (b .args .t + 1) (c .before .loop .k) (length (now (b .args .cells))) (omega arith) (c .loop-test .taken) (b .pre)
 
+-- the row found is the first
+returns : tie.Need-returns Inv-loop μ-loop
+returns c =
+    let l = c .before .before .before in
+    seek-is _ _ (l .loop .k) (c .before .before .loop-test .taken) (eq-eqb _ _ (c .if1 .taken)) (λ i h. ne-eqb _ _ (l .loop .inv .1 i h))
+
 mul-line : tie.Need-mul-line Inv-loop μ-loop
 mul-line c = omega (arith, c .pre)
 
@@ -41,11 +47,6 @@ mul-if1 c = omega (arith, within c)
 
 shared-slice-read-if1 : tie.Need-shared-slice-read-if1 Inv-loop μ-loop
 shared-slice-read-if1 c = within (c .before)
-
-returns : tie.Need-returns Inv-loop μ-loop
-returns c =
-    let l = c .before .before .before in
-    seek-is _ _ (l .loop .k) (c .before .before .loop-test .taken) (eq-eqb _ _ (c .if1 .taken)) (λ i h. ne-eqb _ _ (l .loop .inv .1 i h))
 
 loop-again : tie.Need-loop-again Inv-loop μ-loop
 loop-again c =

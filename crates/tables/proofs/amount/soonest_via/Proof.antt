@@ -72,7 +72,7 @@ loop-again c =
     let i = c .before .before .before .before in
     let s = i .before .before .before .before in
     let l = i .before .loop in
-    passing-next _ _ (s .args .followers) (s .args .gaps) _ _ _ (s .fits .followers .fits) (l .inv) (i .loop-test .taken) _
+    passing-next _ _ (s .args .followers) (s .args .gaps) _ _ _ (s .fits .followers .fits) (l .inv) (i .loop-test .taken) _ _ (omega arith)
     (c .smaller .ensures
     ∙ ap (min (l .soonest))
     (c .before .time-via .ensures

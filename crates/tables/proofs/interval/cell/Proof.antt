@@ -12,7 +12,7 @@ use Rattle.tables.proofs.interval.cell.Statement.{statement}
 use Rattle.tables.proofs.interval.cell.Tie as tie
 
 returns : tie.Need-returns
-returns c = step-late _ _ _ _ _ _ (c .if1 .taken)
+returns c = step-late _ _ _ _ _ _ (omega (arith, c .if1 .taken))
 
 most-added-requires : tie.Need-most-added-requires
 most-added-requires c κs = let b = c .before .before .before .before in (row-followed _ _ _ (b .pre .0), b .pre .1 .0)

@@ -23,7 +23,7 @@ within : (c : tie.In-loop Inv-loop μ-loop) →
     a .t * a .n + c .before .loop .k < length (now (a .cells))
 within c =
     let b = c .before .before .before in
-    in-lines (b .args .n) (b .args .t) (b .args .t + 1) (c .before .loop .k) (length (now (b .args .cells))) (omega arith) (c .loop-test .taken) (b .pre)
+    in-lines (b .args .n) (b .args .t) (b .args .t + 1) (c .before .loop .k) (length (now (b .args .cells))) (omega arith) (omega arith) (b .pre)
 
 mul-line : tie.Need-mul-line Inv-loop μ-loop
 mul-line c = omega (arith, c .before .pre)
@@ -38,7 +38,7 @@ mul-larger : tie.Need-mul-larger Inv-loop μ-loop
 mul-larger c = omega (arith, within c)
 
 shared-slice-read-larger : tie.Need-shared-slice-read-larger Inv-loop μ-loop
-shared-slice-read-larger c = within (c .before)
+shared-slice-read-larger c = omega (arith, within (c .before))
 
 loop-again : tie.Need-loop-again Inv-loop μ-loop
 loop-again c =

@@ -1,5 +1,5 @@
 -- `fill_by_interval` meets its contract. The cells passed are right, and the line and the row are those of the next cell.
-use Prim.Native.Nat.{_+_, _-_, _<_}
+use Prim.Native.Nat.{_+_, _-_, _*_, _<_}
 use borrow.Author.Needs.{needs}
 use denote.Ref.{now}
 use lib.ListN.{length}
@@ -18,13 +18,19 @@ Inv-loop bytes cells₀ t sheet lengths n end at₀ s₀ k₀ cells at s k = Upt
 abbrev μ-loop : tie.MeasureT-loop
 μ-loop bytes cells₀ t sheet lengths n end at₀ s₀ k₀ cells at s k = end - at
 
--- the line is one of those asked for
+-- the cell is one of those asked for
+asked : (c : tie.In-loop Inv-loop μ-loop) →
+    let a = c .before .before .before .before .before .before .args in
+    c .before .loop .at < a .t2 .tally .rows * (a .t + 1)
+asked c = omega (arith, c .loop-test .taken)
+
+-- and so is its line
 line-asked : (c : tie.In-loop Inv-loop μ-loop) → c .before .loop .s < c .before .before .before .before .before .before .args .t + 1
-line-asked c = upto-line _ _ _ _ _ _ _ _ (c .before .loop .inv) (c .loop-test .taken) (c .before .before .before .before .before .before .pre .1 .1)
+line-asked c = upto-line _ _ _ _ _ _ _ _ (c .before .loop .inv) (asked c) (c .before .before .before .before .before .before .pre .1 .1)
 
 -- the cell stands in the area
 within : (c : tie.In-loop Inv-loop μ-loop) → c .before .loop .at < length (c .before .loop .cells)
-within c = upto-inside _ _ _ _ _ _ _ _ (c .before .loop .inv) (c .loop-test .taken) (c .before .before .before .before .before .before .pre .1 .1)
+within c = upto-inside _ _ _ _ _ _ _ _ (c .before .loop .inv) (asked c) (c .before .before .before .before .before .before .pre .1 .1)
 
 -- the row is one that the arrays have
 row-few : (c : tie.At-loop Inv-loop μ-loop) → c .loop .k < rowLimit
@@ -69,7 +75,7 @@ cell-requires c κs =
     let b = l .before .before .before .before .before in (
       b .pre .0 .proper .each-row (l .loop .k) (l .loop .inv .row),
       (
-        upto-room _ _ _ _ _ _ _ _ (l .loop .inv) (i .loop-test .taken) (b .pre .1 .1),
+        upto-room _ _ _ _ _ _ _ _ (l .loop .inv) (asked i) (b .pre .1 .1),
         next-fits _ _ (b .pre .0) _ _ _ _ (l .loop .inv .row) (upto-filled _ _ _ _ _ _ _ _ (l .loop .inv)) _ (l .before .before .job-lengths .ensures (l .loop .k) (row-few l)) (omega (arith, line-asked i, b .pre .1 .0)),
       ),
     )
@@ -95,7 +101,7 @@ loop-less c = omega (arith, c .before .before .before .before .loop-test .taken)
 loop-again : tie.Need-loop-again Inv-loop μ-loop
 loop-again c =
     let i = c .before .before .before .before in
-    upto-turn _ _ _ _ _ _ _ _ (i .before .loop .inv) (i .loop-test .taken) (i .before .before .before .before .before .before .pre .1 .1) _ (right (c .before)) (c .if1 .taken)
+    upto-turn _ _ _ _ _ _ _ _ (i .before .loop .inv) (asked i) (i .before .before .before .before .before .before .pre .1 .1) _ (right (c .before)) (c .if1 .taken)
 
 loop-less-2 : tie.Need-loop-less-2 Inv-loop μ-loop
 loop-less-2 c = omega (arith, c .before .before .before .before .loop-test .taken)
@@ -103,13 +109,13 @@ loop-less-2 c = omega (arith, c .before .before .before .before .loop-test .take
 loop-again-2 : tie.Need-loop-again-2 Inv-loop μ-loop
 loop-again-2 c =
     let i = c .before .before .before .before in
-    upto-next _ _ _ _ _ _ _ _ (i .before .loop .inv) (i .loop-test .taken) (i .before .before .before .before .before .before .pre .1 .1) _ (right (c .before)) (c .if1 .left)
+    upto-next _ _ _ _ _ _ _ _ (i .before .loop .inv) (asked i) (i .before .before .before .before .before .before .pre .1 .1) _ (right (c .before)) (c .if1 .left)
 
 same-length : tie.Need-same-length Inv-loop μ-loop
 same-length c = c .before .loop .inv .filled .same-length
 
 returns : tie.Need-returns Inv-loop μ-loop
-returns c = upto-done _ _ _ _ _ _ _ _ (c .before .loop .inv) (c .loop-test .left)
+returns c = upto-done _ _ _ _ _ _ _ _ (c .before .loop .inv) (omega (arith, c .loop-test .left))
 
 pub fill-by-interval-spec : {M : Type 1} → statement M
 fill-by-interval-spec =

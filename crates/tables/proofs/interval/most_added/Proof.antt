@@ -65,7 +65,7 @@ loop-again c =
     let gap : c .before .before .gap-at .result .0 ≡ gapTo (now (a .bytes)) (a .followers) (a .gaps) j =
     ap (λ r. r .0) (c .before .before .gap-at .ensures)
     ∙ passing-gap _ _ _ _ _ _ _ (b .fits .followers .fits) (l .inv) (i .loop-test .taken) (now (a .bytes)) in
-    passing-next _ _ _ _ _ _ _ (b .fits .followers .fits) (l .inv) (i .loop-test .taken) _
+    passing-next _ _ _ _ _ _ _ (b .fits .followers .fits) (l .inv) (i .loop-test .taken) _ _ (omega arith)
     (rw (c .larger .ensures, c .before .added .ensures, gap))
 
 returns : tie.Need-returns Inv-loop μ-loop
