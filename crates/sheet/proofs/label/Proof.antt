@@ -1,7 +1,8 @@
 -- `label` meets its contract: the judged label lies in the file, so that part of the bytes can be handed out.
+use mathlib.Core.Path.{refl}
 use Prim.Native.Nat.{_+_, _≤_}
 use native.Mathlib.Omega.{arith}
-use native.Mathlib.Nat.{add-sub-cancel-left}
+use native.Mathlib.Nat.{add-comm, add-sub-cancel-left}
 use denote.Ref.{now}
 use lib.ListN.{length}
 use borrow.Author.Needs.{needs}
@@ -19,7 +20,9 @@ part-result-end : tie.Need-part-result-end
 part-result-end c = omega (arith, within (c .before .before .before))
 
 returns : tie.Need-returns
-returns c = rw (add-sub-cancel-left, ← c .before .before .before .before .judge .ensures)
+returns c =
+    let same = c .before .before .before .before .judge .ensures in
+    (refl, rw (← same) (add-comm _ _), rw (add-sub-cancel-left, ← same))
 
 pub label-spec : {M : Type 1} → statement M
 label-spec =
