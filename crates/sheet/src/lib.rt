@@ -56,7 +56,7 @@ pub fn judge(bytes: &[u8]) -> Judged
     }
 }
 
-// The label, as that part of the caller's bytes; an empty part for a refused sheet.
+// The label, as that part of the caller's bytes; an empty part at their start for a refused sheet.
 pub fn label(bytes: &[u8]) -> &[u8]
     ensures { λ r. ⌜ LabelOf (bytes .entry) r ⌝ }
 {

@@ -1,10 +1,10 @@
 -- `label` meets its contract: the judged label lies in the file, so that part of the bytes can be handed out.
-use mathlib.Core.Path.{refl}
-use Prim.Native.Nat.{_+_, _≤_}
+use mathlib.Core.Path.{refl, ap}
+use Prim.Native.Nat.{ℕ, _+_, _≤_}
 use native.Mathlib.Omega.{arith}
 use native.Mathlib.Nat.{add-comm, add-sub-cancel-left}
 use denote.Ref.{now}
-use lib.ListN.{length}
+use lib.ListN.{length, take, drop}
 use borrow.Author.Needs.{needs}
 use Rattle.sheet.proofs.LabelInside.{label-inside}
 use Rattle.sheet.proofs.label.Statement.{statement}
@@ -21,8 +21,13 @@ part-result-end c = omega (arith, within (c .before .before .before))
 
 returns : tie.Need-returns
 returns c =
-    let same = c .before .before .before .before .judge .ensures in
-    (refl, rw (← same) (add-comm _ _), rw (add-sub-cancel-left, ← same))
+    let told = c .before .before .before .before in
+    let file = now (told .before .before .args .bytes) in
+    let label = told .judge .result .sheet .label in (
+      refl,
+      rw (← told .judge .ensures) (add-comm (label .start) _),
+      rw (← told .judge .ensures) (ap (λ (size : ℕ). take size (drop (label .start) file)) (add-sub-cancel-left (label .start) (label .size))),
+    )
 
 pub label-spec : {M : Type 1} → statement M
 label-spec =
