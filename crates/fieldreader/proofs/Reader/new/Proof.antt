@@ -23,7 +23,7 @@ use denote.RattleType.{owns}
 use denote.Laws.{Is}
 use denote.Builtin.{u8}
 use denote.Exit.{yes}
-use denote.Ref.{RefT}
+use denote.Ref.{RefT, NamedLft}
 use denote.Signature.{plain}
 use denote.Slice.{slice-vals, shr-slice-tells, shr-slice-lawful}
 use denote.Triple.Entry.{onEntry}
@@ -37,6 +37,10 @@ use Rattle.fieldreader.proofs.Reader.new as new
 use Rattle.fieldreader.proofs.Reader.new.Code as code
 use Rattle.fieldreader.proofs.Reader.new.Key.{name as #fieldreader·Reader·new}
 use Rattle.fieldreader.proofs.Reader.new.Statement as stated
+
+-- the lifetime of the bytes, as the reader's type names it
+abbrev held-for : Lft → NamedLft
+held-for κ = record { mir = named 0; lft = κ }
 
 abbrev stayed : Stays (new.ended .signature .params) (new.ended .kept)
 stayed = (stay-none-slice (0 ∷ []) tt (plain (λ _. u8)) yes, tt)
@@ -61,13 +65,13 @@ module _ {M : Type 1} (𝓤 : URA M) (H : Heap 𝓤) (A : Atoms 𝓤) (mem : Mem
 
       exits : ent 𝓤 entry (Ended .post at-entry (reader-value at-start))
       exits =
-          qed W (token 𝓤 κ q ∷ ‵ (owns (Lent (κ, tt) ∷ []) (bytes, tt) (value ∷ [], tt)) ∷ []) ∵
+          qed W (token 𝓤 κ q ∷ ‵ (owns (Lent κ ∷ []) (bytes, tt) (value ∷ [], tt)) ∷ []) ∵
           suffices ! _ (ends-at 𝓤 H A new.ended stayed (new.clauses 𝓤 H A mem run) W at-entry (reader-value at-start) at-start (tt, tt) (tt, tt)) $ says ! (refl, refl) $
-          frame ! $ fsplit ! $ use1 W (‵ (bytes-own κ bytes) ⊛ ‵ (bytes-own κ bytes)) (bytes-twice 𝓤 H A W κ bytes) $ split ! $
-          move ! (0 ∷ 2 ∷ []) $ fjoin ! $ frame ! $ by ! (made 𝓤 H A W κ at-start (lit< tt))
+          frame ! $ fsplit ! $ use1 W (‵ (bytes-own κ bytes) ⊛ ‵ (bytes-own κ bytes)) (bytes-twice 𝓤 H A W (held-for κ) bytes) $ split ! $
+          move ! (0 ∷ 2 ∷ []) $ fjoin ! $ frame ! $ by ! (made 𝓤 H A W (held-for κ) at-start (lit< tt))
 
       module _ (C : Calls 𝓤 H) (Λ : Loops 𝓤 H) where
-        walk : Is (Lent (κ, tt)) bytes (value ∷ []) → ent 𝓤 entry (WpFn 𝓤 H C Λ code.function (value ∷ []) (Ended .post at-entry))
+        walk : Is (Lent κ) bytes (value ∷ []) → ent 𝓤 entry (WpFn 𝓤 H C Λ code.function (value ∷ []) (Ended .post at-entry))
         walk is =
             let types = shr-slice-lawful 𝓤 H A W (named 0) κ u8 .typed bytes (value ∷ []) is .0 in
             qed W (raw entry ∷ []) ∵ enter ! C Λ code.function (value ∷ []) _ $
