@@ -18,8 +18,8 @@ returns c = ap (from (c .before .before .before .before .before .args .at)) (sym
 returns-2 : tie.Need-returns-2
 returns-2 c =
     let at = c .before .before .before .before .args .at in
-    let refusal = c .enum-told .given .1 in
-    ap (λ (step : Step). record { step = step; after = at }) refusal ∙ ap (from at) (sym refusal ∙ c .before .before .field-at .ensures)
+    let stands = c .before .before .field-at .ensures in
+    λ i. record { step = stands i; after = ap (afterField at) (sym (c .enum-told .given .1) ∙ stands) i }
 
 pub step-at-spec : {M : Type 1} → statement M
 step-at-spec =
