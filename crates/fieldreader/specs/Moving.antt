@@ -17,6 +17,6 @@ afterField at (Refusal number place) = at
 abbrev pub stepAt : List ℕ → ℕ → Taken
 stepAt bytes at = record { step = fieldAt bytes at; after = afterField at (fieldAt bytes at) }
 
--- a reader after a step: it holds the same bytes, and stands after what it read
-abbrev pub moved : Reader → Reader
-moved reader = record { bytes = reader .bytes; at = stepAt (now (reader .bytes)) (reader .at) .after }
+-- a reader after a step: it holds the same bytes, and stands at the place after it
+abbrev pub stepped : Reader → Reader
+stepped reader = record { bytes = reader .bytes; at = stepAt (now (reader .bytes)) (reader .at) .after }

@@ -3,7 +3,7 @@ use fields::reader::Step;
 use fields::reader::field_at;
 ghost use mathlib.Core.Path.{_≡_};
 ghost use Rattle.fields.specs.Reading.{fieldAt};
-ghost use Rattle.fieldreader.specs.Moving.{stepAt, moved};
+ghost use Rattle.fieldreader.specs.Moving.{stepAt, stepped};
 
 pub struct Reader<'a> {
     pub bytes: &'a [u8],
@@ -20,7 +20,7 @@ impl<'a> Reader<'a> {
 
     // The field or the refusal at its place. On a field the reader moves to the next one; else it stays.
     pub fn step(&mut self) -> Step
-        ensures { λ s. ⌜ (s ≡ fieldAt (now (now (self .entry) .bytes)) (now (self .entry) .at)) × (now (self .exit) ≡ moved (now (self .entry))) ⌝ }
+        ensures { λ s. ⌜ (s ≡ fieldAt (now (now (self .entry) .bytes)) (now (self .entry) .at)) × (now (self .exit) ≡ stepped (now (self .entry))) ⌝ }
     {
         let taken = step_at(self.bytes, self.at);
         self.at = taken.after;
@@ -34,27 +34,22 @@ struct Taken {
     after: usize,
 }
 
-// The step at a place. Its header is read once, for both.
+// The step at a place. The header is read once, for both.
 fn step_at(bytes: &[u8], at: usize) -> Taken
     ensures { λ r. ⌜ r ≡ stepAt (now (bytes .entry)) at ⌝ }
 {
     let step = field_at(bytes, at);
-    match step {
+    let after = match step {
         Step::Field {
             kind: _,
             start: _,
             size: _,
             next,
-        } => Taken {
-            step: step,
-            after: next,
-        },
+        } => next,
         Step::Refusal {
             number: _,
             place: _,
-        } => Taken {
-            step: step,
-            after: at,
-        },
-    }
+        } => at,
+    };
+    Taken { step, after }
 }
