@@ -13,7 +13,7 @@ use prog.Wp.{Heap}
 use ghost.Atoms.{Atoms, sem}
 use types.Kit.{Given, Item, ‵, raw, _⊛_, ⋆, given, _$_, _∵_, !, qed, by, move, drop, use1, use2, split, join, learn, fjoin, frame, done}
 use denote.RattleType.{RattleType, Valss, owns}
-use denote.Laws.{Is}
+use denote.Laws.{Is, Tells}
 use denote.Plain.{uint-makes}
 use denote.Builtin.{u8, usize}
 use denote.Ref.{RefT, NamedLft}
@@ -26,6 +26,10 @@ use denote.Struct.Values.{Values}
 use Rattle.fieldreader.specs.declared.Reader.{Reader}
 use Rattle.fieldreader.proofs.Reader as reader-type
 use Rattle.fieldreader.proofs.Reader.Laws as reader-laws
+
+-- the lifetime of the bytes, by its number in a signature
+abbrev pub held-for : ℕ → Lft → NamedLft
+held-for n κ = record { mir = named n; lft = κ }
 
 -- the types of bytes and of a reader, at a lifetime
 abbrev pub Lent : Lft → RattleType
@@ -40,6 +44,9 @@ bytes-value bytes = sliceVal (bytes .ptr) (length (bytes .now))
 
 abbrev pub reader-value : Reader → Val
 reader-value = reader-laws.lowered
+
+pub reader-tells : (α : NamedLft) → Tells (Held α) (Is (Held α)) (λ r. reader-value r ∷ [])
+reader-tells α = struct.tells (reader-type.the-type α) (reader-laws.the-laws α)
 
 -- what bytes own, and what a reader owns
 abbrev pub bytes-own : Lft → RefT (List ℕ) → Fml

@@ -22,11 +22,11 @@ part-result-end c = omega (arith, within (c .before .before .before))
 returns : tie.Need-returns
 returns c =
     let told = c .before .before .before .before in
-    let file = now (told .before .before .args .bytes) in
+    let bytes = told .before .before .args .bytes in
     let label = told .judge .result .sheet .label in (
       refl,
-      rw (← told .judge .ensures) (add-comm (label .start) _),
-      rw (← told .judge .ensures) (ap (λ (size : ℕ). take size (drop (label .start) file)) (add-sub-cancel-left (label .start) (label .size))),
+      rw (← told .judge .ensures) (add-comm (label .start) (bytes .ptr .1)),
+      rw (← told .judge .ensures) (ap (λ (size : ℕ). take size (drop (label .start) (now bytes))) (add-sub-cancel-left (label .start) (label .size))),
     )
 
 pub label-spec : {M : Type 1} → statement M

@@ -23,7 +23,7 @@ use denote.RattleType.{owns}
 use denote.Laws.{Is}
 use denote.Builtin.{u8}
 use denote.Exit.{yes}
-use denote.Ref.{RefT, NamedLft}
+use denote.Ref.{RefT}
 use denote.Signature.{plain}
 use denote.Slice.{slice-vals, shr-slice-tells, shr-slice-lawful}
 use denote.Triple.Entry.{onEntry}
@@ -32,15 +32,11 @@ use denote.Triple.Statement.{Contract}
 use denote.Triple.Table.{entered}
 use denote.Triple.Walked.{says, Stays, stay-none-slice, walkOf, goes-none-slice, Walks, ends-at, walked, walk-meets}
 use Rattle.fieldreader.specs.declared.Reader.{Reader}
-use Rattle.fieldreader.proofs.Holding.{Lent, bytes-value, reader-value, bytes-own, token, bytes-twice, made}
+use Rattle.fieldreader.proofs.Holding.{held-for, Lent, bytes-value, reader-value, bytes-own, token, bytes-twice, made}
 use Rattle.fieldreader.proofs.Reader.new as new
 use Rattle.fieldreader.proofs.Reader.new.Code as code
 use Rattle.fieldreader.proofs.Reader.new.Key.{name as #fieldreader·Reader·new}
 use Rattle.fieldreader.proofs.Reader.new.Statement as stated
-
--- the lifetime of the bytes, as the reader's type names it
-abbrev held-for : Lft → NamedLft
-held-for κ = record { mir = named 0; lft = κ }
 
 abbrev stayed : Stays (new.ended .signature .params) (new.ended .kept)
 stayed = (stay-none-slice (0 ∷ []) tt (plain (λ _. u8)) yes, tt)
@@ -54,6 +50,7 @@ module _ {M : Type 1} (𝓤 : URA M) (H : Heap 𝓤) (A : Atoms 𝓤) (mem : Mem
       abbrev value : Val
       value = bytes-value bytes
 
+      -- a reader of the bytes at a place
       abbrev standing : ℕ → Reader
       standing at = record { bytes = bytes; at = at }
 
@@ -63,12 +60,13 @@ module _ {M : Type 1} (𝓤 : URA M) (H : Heap 𝓤) (A : Atoms 𝓤) (mem : Mem
       abbrev entry : SProp 𝓤
       entry = onEntry 𝓤 H A new.signature (κ, tt) (q, tt) (bytes, tt) (value ∷ [], tt)
 
+      -- the place that the code puts beside the bytes has to be the start
       exits : (at : ℕ) → at < 2 ^ 64 → at ≡ 0 → ent 𝓤 entry (Ended .post at-entry (reader-value (standing at)))
       exits at fits is-start =
           qed W (token 𝓤 κ q ∷ ‵ (owns (Lent κ ∷ []) (bytes, tt) (value ∷ [], tt)) ∷ []) ∵
           suffices ! _ (ends-at 𝓤 H A new.ended stayed (new.clauses 𝓤 H A mem run) W at-entry (reader-value (standing at)) (standing at) (tt, tt) (tt, tt)) $ says ! (refl, is-start) $
-          frame ! $ fsplit ! $ use1 W (‵ (bytes-own κ bytes) ⊛ ‵ (bytes-own κ bytes)) (bytes-twice 𝓤 H A W (held-for κ) bytes) $ split ! $
-          move ! (0 ∷ 2 ∷ []) $ fjoin ! $ frame ! $ by ! (made 𝓤 H A W (held-for κ) (standing at) fits)
+          frame ! $ fsplit ! $ use1 W (‵ (bytes-own κ bytes) ⊛ ‵ (bytes-own κ bytes)) (bytes-twice 𝓤 H A W (held-for 0 κ) bytes) $ split ! $
+          move ! (0 ∷ 2 ∷ []) $ fjoin ! $ frame ! $ by ! (made 𝓤 H A W (held-for 0 κ) (standing at) fits)
 
       module _ (C : Calls 𝓤 H) (Λ : Loops 𝓤 H) where
         walk : Is (Lent κ) bytes (value ∷ []) → ent 𝓤 entry (WpFn 𝓤 H C Λ code.function (value ∷ []) (Ended .post at-entry))
