@@ -3,7 +3,7 @@ use fields::reader::Step;
 use fields::reader::field_at;
 ghost use mathlib.Core.Path.{_≡_};
 ghost use Rattle.fields.specs.Reading.{fieldAt};
-ghost use Rattle.fieldreader.specs.Moving.{afterField};
+ghost use Rattle.fieldreader.specs.Moving.{stepAt, stepped};
 
 pub struct Reader<'a> {
     pub bytes: &'a [u8],
@@ -18,30 +18,28 @@ impl<'a> Reader<'a> {
         Reader { bytes, at: 0 }
     }
 
-    // The field or the refusal at its place.
-    pub fn step(self) -> Step
-        ensures { λ s. ⌜ s ≡ fieldAt (now (self .entry .bytes)) (self .entry .at) ⌝ }
+    // The field or the refusal at its place. On a field the reader moves to the next one; else it stays.
+    pub fn step(&mut self) -> Step
+        ensures { λ s. ⌜ (s ≡ fieldAt (now (now (self .entry) .bytes)) (now (self .entry) .at)) × (now (self .exit) ≡ stepped (now (self .entry))) ⌝ }
     {
-        field_at(self.bytes, self.at)
-    }
-
-    // The reader at the next field; where there is none, at the same place.
-    pub fn advance(self) -> Reader<'a>
-        ensures { λ r. ⌜ (r .bytes ≡ self .entry .bytes) × (r .at ≡ afterField (self .entry .at) (fieldAt (now (self .entry .bytes)) (self .entry .at))) ⌝ }
-    {
-        let next = after_at(self.bytes, self.at);
-        Reader {
-            bytes: self.bytes,
-            at: next,
-        }
+        let taken = step_at(self.bytes, self.at);
+        self.at = taken.after;
+        taken.step
     }
 }
 
-// The place of the next field after the one at a place; that place itself where no field stands.
-pub fn after_at(bytes: &[u8], at: usize) -> usize
-    ensures { λ r. ⌜ r ≡ afterField at (fieldAt (now (bytes .entry)) at) ⌝ }
+// What a step tells, and the place after it.
+struct Taken {
+    step: Step,
+    after: usize,
+}
+
+// The step at a place. The header is read once, for both.
+fn step_at(bytes: &[u8], at: usize) -> Taken
+    ensures { λ r. ⌜ r ≡ stepAt (now (bytes .entry)) at ⌝ }
 {
-    match field_at(bytes, at) {
+    let step = field_at(bytes, at);
+    let after = match step {
         Step::Field {
             kind: _,
             start: _,
@@ -52,5 +50,6 @@ pub fn after_at(bytes: &[u8], at: usize) -> usize
             number: _,
             place: _,
         } => at,
-    }
+    };
+    Taken { step, after }
 }

@@ -4,6 +4,8 @@ use mathlib.Core.List.{List, [], _∷_, _++_}
 use mathlib.Core.Bool.{true, false}
 use lib.ListN.{length, take, drop}
 use lib.Dec.{ltb}
+use mathlib.Core.Path.{_≡_}
+use denote.Ref.{RefT, now}
 use Rattle.fields.specs.Deciding.{Rule, _when_, pick, judgedBy}
 use Rattle.fields.specs.Fields.{isEnd}
 use Rattle.fields.specs.Reading.{fieldAt, modeAt, rowAt, taskAt}
@@ -15,6 +17,7 @@ use Rattle.fields.specs.declared.table.Kind.{Kind}
 use Rattle.fields.specs.declared.table.Kind.the-variants.{RefusedTag, LabelField, ModeField, RowField, TaskField, EndField, SkippedField}
 use Rattle.fields.specs.declared.reader.Step.{Step}
 use Rattle.fields.specs.declared.reader.Step.the-variants.{Field, Refusal}
+use Rattle.fields.specs.declared.values.Part.{Part}
 use Rattle.fields.specs.declared.values.Sheet.{Sheet}
 use Rattle.fields.specs.declared.values.Tally.{Tally}
 use Rattle.sheet.specs.declared.Answer.{Answer}
@@ -95,6 +98,11 @@ walk bytes (suc n) at sheet = onField bytes sheet at (walk bytes n) (fieldAt byt
 unfoldable pub judged : List ℕ → Judged
 judged bytes = walk bytes (length bytes + 1) 0 emptySheet
 
--- the label's bytes
-abbrev pub labelOf : List ℕ → List ℕ
-labelOf bytes = take (judged bytes .sheet .label .size) (drop (judged bytes .sheet .label .start) bytes)
+-- a slice is that part of other bytes: it stands in their block, as many bytes further on as the part starts, and holds as many of them as the part has
+abbrev pub PartOf : RefT (List ℕ) → Part → RefT (List ℕ) → Type 0
+PartOf bytes part slice =
+    (slice .ptr .0 ≡ bytes .ptr .0) × (slice .ptr .1 ≡ bytes .ptr .1 + part .start) × (now slice ≡ take (part .size) (drop (part .start) (now bytes)))
+
+-- the label is the part of the bytes that judging them gives: an empty part at their start for a refused sheet
+abbrev pub LabelOf : RefT (List ℕ) → RefT (List ℕ) → Type 0
+LabelOf bytes slice = PartOf bytes (judged (now bytes) .sheet .label) slice

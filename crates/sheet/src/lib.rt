@@ -11,7 +11,7 @@ use judging::judge_end;
 use judging::refused;
 use judging::with_field;
 ghost use mathlib.Core.Path.{_≡_};
-ghost use Rattle.sheet.specs.Judging.{judged, labelOf};
+ghost use Rattle.sheet.specs.Judging.{judged, LabelOf};
 
 pub enum Answer {
     Accepted,
@@ -56,9 +56,9 @@ pub fn judge(bytes: &[u8]) -> Judged
     }
 }
 
-// The label, as that part of the caller's bytes; an empty part for a refused sheet.
+// The label, as that part of the caller's bytes; an empty part at their start for a refused sheet.
 pub fn label(bytes: &[u8]) -> &[u8]
-    ensures { λ r. ⌜ now r ≡ labelOf (now (bytes .entry)) ⌝ }
+    ensures { λ r. ⌜ LabelOf (bytes .entry) r ⌝ }
 {
     let judged = judge(bytes);
     let sheet = judged.sheet;

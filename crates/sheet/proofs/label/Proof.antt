@@ -1,9 +1,10 @@
 -- `label` meets its contract: the judged label lies in the file, so that part of the bytes can be handed out.
-use Prim.Native.Nat.{_+_, _≤_}
+use mathlib.Core.Path.{refl, ap}
+use Prim.Native.Nat.{ℕ, _+_, _≤_}
 use native.Mathlib.Omega.{arith}
-use native.Mathlib.Nat.{add-sub-cancel-left}
+use native.Mathlib.Nat.{add-comm, add-sub-cancel-left}
 use denote.Ref.{now}
-use lib.ListN.{length}
+use lib.ListN.{length, take, drop}
 use borrow.Author.Needs.{needs}
 use Rattle.sheet.proofs.LabelInside.{label-inside}
 use Rattle.sheet.proofs.label.Statement.{statement}
@@ -19,7 +20,14 @@ part-result-end : tie.Need-part-result-end
 part-result-end c = omega (arith, within (c .before .before .before))
 
 returns : tie.Need-returns
-returns c = rw (add-sub-cancel-left, ← c .before .before .before .before .judge .ensures)
+returns c =
+    let told = c .before .before .before .before in
+    let bytes = told .before .before .args .bytes in
+    let label = told .judge .result .sheet .label in (
+      refl,
+      rw (← told .judge .ensures) (add-comm (label .start) (bytes .ptr .1)),
+      rw (← told .judge .ensures) (ap (λ (size : ℕ). take size (drop (label .start) (now bytes))) (add-sub-cancel-left (label .start) (label .size))),
+    )
 
 pub label-spec : {M : Type 1} → statement M
 label-spec =
