@@ -2,7 +2,6 @@
 use Prim.Native.Nat.{_*_, _≤_, _<_}
 use Rattle.beginning.proofs.Beginnings.{begin-refused, begin-beyond, begin-short, begin-goes-on}
 use Rattle.beginning.proofs.begin.Statement.{statement}
-use Rattle.beginning.specs.Beginning.{lines}
 use Rattle.sheet.proofs.Accepted.{accepted-proper}
 use Rattle.sheet.specs.Judging.{judged}
 use Rattle.sheet.specs.declared.Answer.the-variants.{Accepted}
