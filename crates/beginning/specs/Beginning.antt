@@ -36,18 +36,19 @@ FilledByInterval bytes lines old new = Filled (rows bytes) (ByInterval (graph by
 abbrev pub FilledByAmount : List ℕ → ℕ → List ℕ → List ℕ → Type 0
 FilledByAmount bytes lines old new = Filled (rows bytes) (ByAmount (graph bytes)) old new (roomFor bytes lines)
 
--- the rules of a call: the number asked for is in range, and the room, in cells, is enough for its lines
+-- the rules of a call: rule 11 where the number asked for is out of range, rule 12 where the room, in cells, is too small for its lines
 abbrev pub callRules : List ℕ → Bool → ℕ → ℕ → List Rule
 callRules bytes outOfRange lines room = 11 when outOfRange ∷ 12 when ltb room (roomFor bytes lines) ∷ []
 
--- an interval or a horizon is at most the longest time, and takes a line for each interval from 0 on
+-- of one with an interval or a horizon, which is at most the longest time and takes a line for each interval from 0 on
 abbrev pub intervalRules : List ℕ → ℕ → ℕ → List Rule
 intervalRules bytes t = callRules bytes (ltb longestTime t) (t + 1)
 
--- an amount is from 1 to one more than the longest time, and takes a line for each amount from 1 on
+-- rule 11 of an amount: it is from 1 to one more than the longest time
 abbrev pub badAmount : ℕ → Bool
 badAmount b = eqb b 0 or ltb (longestTime + 1) b
 
+-- the rules of a call with an amount, which takes a line for each amount from 1 on
 abbrev pub amountRules : List ℕ → ℕ → ℕ → List Rule
 amountRules bytes b = callRules bytes (badAmount b) b
 

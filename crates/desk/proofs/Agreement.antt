@@ -2,15 +2,15 @@
 use Prim.Native.Nat.{ℕ, _+_, _≤_}
 use native.Mathlib.Omega.{arith}
 use mathlib.Core.Path.{_≡_, refl, sym, ap, _∙_, subst}
-use mathlib.Core.Logic.{inl, inr, ⊎-elim, _↔_, Iff·trans}
+use mathlib.Core.Logic.{inl, inr, _↔_, Iff·trans}
 use mathlib.Core.Bool.{Bool, true, false}
 use mathlib.Core.List.{List, _++_}
 use lib.Dec.{ltb, eqb}
 use lib.ListN.{length, drop}
 use borrow.Author.Tests.{le-ltb, eqb-true, eqb-false}
-use Rattle.meaning.specs.Demand.{longestTime, noTime, IsDemand, IsShortest, Enough}
+use Rattle.meaning.specs.Demand.{longestTime, noTime, IsDemand, IsShortest}
 use Rattle.meaning.specs.Verdict.{Verdict, IsVerdict}
-use Rattle.meaning.proofs.Agreement.{agree}
+use Rattle.meaning.proofs.Agreement.{agree, none-enough}
 use Rattle.meaning.proofs.Verdicts.{verdict-unique}
 use Rattle.fields.specs.Deciding.{pick}
 use Rattle.sheet.specs.Judging.{judged}
@@ -69,13 +69,6 @@ module _ (answer : ShortestAnswer) (time : ℕ) where
   told : ShortestGives answer time → ((answer ≡ Refused 14 0) ↔ (time ≡ noTime)) × ((t : ℕ) → t ≤ longestTime → TellsBy t answer ↔ (time ≤ t))
   told = gives-case (eqb time noTime) refl
 
--- there is no time exactly when no sequence has the amount
-none-enough : (bytes : List ℕ) (b time : ℕ) → IsShortest (graph bytes) b time → (time ≡ noTime) ↔ ((w : List ℕ) → Enough (graph bytes) b w → ⊥)
-none-enough bytes b time is = (
-  (λ none w enough. omega (arith, none, is .bound w enough, enough .2)),
-  (λ none. ⊎-elim (λ r. absurd (none (r .0) (r .1))) (λ r. r .0) (is .reached)),
-)
-
 module _ (bytes : List ℕ) (accepted : judged bytes .answer ≡ Accepted) where
   shortest-answered : (b : ℕ) (answer : ShortestAnswer) → 1 ≤ b → b ≤ longestTime + 1 → WithRoom bytes b (ShortestCall bytes b) answer
       → (time : ℕ) × IsShortest (graph bytes) b time × ShortestGives answer time
@@ -105,7 +98,7 @@ module _ (bytes : List ℕ) (accepted : judged bytes .answer ≡ Accepted) where
     no-interval = λ b answer some few shortest.
         let least = shortest-answered b answer some few shortest in
         let refused : (answer ≡ Refused 14 0) ↔ (least .0 ≡ noTime) = told answer (least .0) (least .2) .0 in
-        Iff·trans refused (none-enough bytes b (least .0) (least .1));
+        Iff·trans refused (none-enough (graph bytes) b (least .0) some (least .1));
     one-verdict = λ horizon x y few by-interval by-amount.
         let v = verdict-answered FilledByInterval horizon x few by-interval in
         let u = verdict-answered FilledByAmount horizon y few by-amount in

@@ -34,12 +34,10 @@ pub record CallsAgree (bytes : List ℕ) : Type 0 where
   pub one-curve : (t b d : ℕ) (answer : ShortestAnswer) → t ≤ longestTime → 1 ≤ b → b ≤ longestTime + 1
       → WithRoom bytes b (ShortestCall bytes b) answer → DemandEitherWay bytes t d
       → TellsBy t answer ↔ (b ≤ d)
-
   -- For every such amount, `shortest` refuses by 14 exactly when no allowed sequence has the amount by 65,535.
   pub no-interval : (b : ℕ) (answer : ShortestAnswer) → 1 ≤ b → b ≤ longestTime + 1
       → WithRoom bytes b (ShortestCall bytes b) answer
       → (answer ≡ Refused 14 0) ↔ ((w : List ℕ) → Enough (graph bytes) b w → ⊥)
-
   -- At every horizon from 0 to 65,535 both verdicts are the same.
   pub one-verdict : (horizon : ℕ) (x y : VerdictAnswer) → horizon ≤ longestTime
       → WithRoom bytes (horizon + 1) (VerdictByIntervalCall bytes horizon) x → WithRoom bytes (horizon + 1) (VerdictByAmountCall bytes horizon) y
