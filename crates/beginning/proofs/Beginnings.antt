@@ -1,50 +1,68 @@
 -- How a call begins: which of the refusals 1 to 12 stands first, or that it comes to its answer.
 use Prim.Native.Nat.{ℕ, _+_, _≤_, _<_}
 use native.Mathlib.Omega.{arith}
-use mathlib.Core.Path.{_≡_, refl, sym, ap, _∙_, subst}
+use mathlib.Core.Path.{_≡_, refl, sym, ap, _∙_, subst, subst⁻¹}
 use mathlib.Core.Bool.{Bool, true, false, true≢false}
-use mathlib.Core.List.{List}
+use mathlib.Core.List.{List, [], _∷_}
 use lib.Dec.{ltb, eqb}
 use borrow.Author.Tests.{lt-ltb, le-ltb, eq-eqb, ne-eqb, eqb-true, eqb-false}
 use Rattle.meaning.specs.Demand.{longestTime}
-use Rattle.fields.specs.Deciding.{pick}
-use Rattle.fields.proofs.Deciding.{yes, no, neither}
+use Rattle.fields.specs.Deciding.{Rule, _when_, pick}
+use Rattle.fields.proofs.Deciding.{yes, no, neither, Kept}
 use Rattle.sheet.specs.Judging.{judged}
 use Rattle.sheet.specs.declared.Answer.{Answer}
-use Rattle.sheet.specs.declared.Answer.the-variants as sheet-case
+use Rattle.sheet.specs.declared.Answer.the-variants.{Accepted, Refused}
 use Rattle.sheet.specs.declared.Judged.{Judged}
-use Rattle.beginning.specs.Beginning.{Begins, badAmount, lines, Begun}
+use Rattle.beginning.specs.Beginning.{Begins, badAmount, roomFor, callRules, Begun}
 
--- a call whose sheet is accepted, whose number is in range and which has room comes to its answer
-pub begins-answering : (answer : Answer) (outOfRange tooFew : Bool) (R : ℕ → ℕ → Type 0) (A : Type 0)
-    → answer ≡ sheet-case.Accepted → outOfRange ≡ false → tooFew ≡ false → A → Begins answer outOfRange tooFew R A
-begins-answering answer o f R A e range room a = rw (e, range, room) a
+accepted-not-refused : (number place : ℕ) → Accepted ≡ Refused number place → ⊥
+accepted-not-refused number place e = let z : _≡_ {A = ℕ} 0 1 = cc in omega arith
 
 -- two calls that begin alike both refuse alike or both answer
-pub begins-alike : (answer : Answer) (outOfRange tooFew : Bool) (R S : ℕ → ℕ → Type 0) (A B C : Type 0)
+pub begins-alike : (answer : Answer) (rules : List Rule) (R S : ℕ → ℕ → Type 0) (A B C : Type 0)
     → ((number place : ℕ) → R number place → S number place → C) → (A → B → C)
-    → Begins answer outOfRange tooFew R A → Begins answer outOfRange tooFew S B → C
-begins-alike (sheet-case.Refused number place) o f R S A B C refused answered r s = refused number place r s
-begins-alike sheet-case.Accepted true f R S A B C refused answered r s = refused 11 0 r s
-begins-alike sheet-case.Accepted false true R S A B C refused answered r s = refused 12 0 r s
-begins-alike sheet-case.Accepted false false R S A B C refused answered r s = answered r s
+    → Begins answer rules R A → Begins answer rules S B → C
+unfolding pick
+begins-alike (Refused number place) rules R S A B C refused answered r s = refused number place r s
+begins-alike Accepted [] R S A B C refused answered r s = answered r s
+begins-alike Accepted (n when true ∷ rules) R S A B C refused answered r s = refused n 0 r s
+begins-alike Accepted (n when false ∷ rules) R S A B C refused answered r s = begins-alike Accepted rules R S A B C refused answered r s
+
+-- a call keeps a promise that follows from the one it keeps
+begins-follows : (answer : Answer) (rules : List Rule) (R S : ℕ → ℕ → Type 0) (A B : Type 0)
+    → ((number place : ℕ) → R number place → S number place) → (answer ≡ Accepted → A → B) → Begins answer rules R A → Begins answer rules S B
+unfolding pick
+begins-follows (Refused number place) rules R S A B refused answered r = refused number place r
+begins-follows Accepted [] R S A B refused answered r = answered refl r
+begins-follows Accepted (n when true ∷ rules) R S A B refused answered r = refused n 0 r
+begins-follows Accepted (n when false ∷ rules) R S A B refused answered r = begins-follows Accepted rules R S A B refused answered r
 
 -- a call that refuses nothing has come to its answer
-pub came-to-answer : (answer : Answer) (outOfRange tooFew : Bool) (R : ℕ → ℕ → Type 0) (A : Type 0)
-    → ((number place : ℕ) → R number place → ⊥) → Begins answer outOfRange tooFew R A
-    → A × (answer ≡ sheet-case.Accepted) × (outOfRange ≡ false)
-came-to-answer (sheet-case.Refused number place) o f R A never b = absurd (never number place b)
-came-to-answer sheet-case.Accepted true f R A never b = absurd (never 11 0 b)
-came-to-answer sheet-case.Accepted false true R A never b = absurd (never 12 0 b)
-came-to-answer sheet-case.Accepted false false R A never b = (b, refl, refl)
+pub came-to-answer : (answer : Answer) (rules : List Rule) (R : ℕ → ℕ → Type 0) (A : Type 0)
+    → ((number place : ℕ) → R number place → ⊥) → Begins answer rules R A → A × (answer ≡ Accepted) × Kept rules
+unfolding pick
+came-to-answer (Refused number place) rules R A never b = absurd (never number place b)
+came-to-answer Accepted [] R A never b = (b, refl, tt)
+came-to-answer Accepted (n when true ∷ rules) R A never b = absurd (never n 0 b)
+came-to-answer Accepted (n when false ∷ rules) R A never b =
+    let came = came-to-answer Accepted rules R A never b in
+    (came .0, refl, (refl, came .2))
 
--- and where the sheet is accepted, the number in range and the room enough, it does come to it
-pub comes-to-answer : (answer : Answer) (outOfRange tooFew : Bool) (R : ℕ → ℕ → Type 0) (A : Type 0)
-    → answer ≡ sheet-case.Accepted → outOfRange ≡ false → tooFew ≡ false → Begins answer outOfRange tooFew R A → A
-comes-to-answer answer o f R A accepted range room b =
-    subst (λ (x : Answer). Begins x false false R A) accepted
-    (subst (λ (x : Bool). Begins answer x false R A) range
-    (subst (λ (x : Bool). Begins answer o x R A) room b))
+-- where the sheet is accepted and no rule is broken, what a call promises is its answer
+promises-answer : (answer : Answer) (rules : List Rule) (R : ℕ → ℕ → Type 0) (A : Type 0)
+    → answer ≡ Accepted → Kept rules → Begins answer rules R A ≡ A
+unfolding pick
+promises-answer (Refused number place) rules R A e kept = absurd (accepted-not-refused number place (sym e))
+promises-answer Accepted [] R A e kept = refl
+promises-answer Accepted (n when true ∷ rules) R A e kept = absurd (true≢false (kept .0))
+promises-answer Accepted (n when false ∷ rules) R A e kept = promises-answer Accepted rules R A e (kept .1)
+
+module _ (answer : Answer) (rules : List Rule) (R : ℕ → ℕ → Type 0) (A : Type 0) (accepted : answer ≡ Accepted) (kept : Kept rules) where
+  pub begins-answering : A → Begins answer rules R A
+  begins-answering = subst⁻¹ (λ (X : Type 0). X) (promises-answer answer rules R A accepted kept)
+
+  pub comes-to-answer : Begins answer rules R A → A
+  comes-to-answer = subst (λ (X : Type 0). X) (promises-answer answer rules R A accepted kept)
 
 module _ (amount : ℕ) where
   -- an amount beyond the longest time and one takes no line
@@ -64,93 +82,84 @@ module _ (amount : ℕ) where
   pub amount-some : badAmount amount ≡ false → 1 ≤ amount
   amount-some good = let some : amount ≡ 0 → ⊥ = eqb-false amount 0 (neither (eqb amount 0) (ltb (longestTime + 1) amount) good .0) in omega arith
 
-accepted-not-refused : (number place : ℕ) → sheet-case.Accepted ≡ sheet-case.Refused number place → ⊥
-accepted-not-refused number place e = let z : _≡_ {A = ℕ} 0 1 = cc in omega arith
+  -- one from 1 to the longest time and one is in range
+  pub amount-in-range : 1 ≤ amount → amount ≤ longestTime + 1 → badAmount amount ≡ false
+  amount-in-range some few = sym (no _ _ _ _ (ne-eqb amount 0 (λ (z : amount ≡ 0). omega arith)) (sym (le-ltb _ _ few)))
 
-module _ (bytes : List ℕ) (outOfRange : Bool) (count room : ℕ) (begun : Judged) where
+module _ (bytes : List ℕ) (outOfRange : Bool) (lines room : ℕ) (begun : Judged) where
   -- a refused sheet
-  pub begin-refused : (number place : ℕ) → judged bytes .answer ≡ sheet-case.Refused number place
-      → begun .answer ≡ sheet-case.Refused number place → Begun bytes outOfRange count room begun
+  pub begin-refused : (number place : ℕ) → judged bytes .answer ≡ Refused number place
+      → begun .answer ≡ Refused number place → Begun bytes (callRules bytes outOfRange lines room) begun
   unfolding Begun
   begin-refused number place e r = rw e r
 
   -- an accepted one, and a number out of range
-  pub begin-beyond : judged bytes .answer ≡ sheet-case.Accepted → outOfRange ≡ true
-      → begun .answer ≡ sheet-case.Refused 11 0 → Begun bytes outOfRange count room begun
-  unfolding Begun
+  pub begin-beyond : judged bytes .answer ≡ Accepted → outOfRange ≡ true
+      → begun .answer ≡ Refused 11 0 → Begun bytes (callRules bytes outOfRange lines room) begun
+  unfolding Begun pick
   begin-beyond e range r = rw (e, range) r
 
   -- and too few cells
-  pub begin-short : judged bytes .answer ≡ sheet-case.Accepted → outOfRange ≡ false → room < lines bytes count
-      → begun .answer ≡ sheet-case.Refused 12 0 → Begun bytes outOfRange count room begun
-  unfolding Begun
-  begin-short e range short r = rw (e, range, lt-ltb room (lines bytes count) short) r
+  pub begin-short : judged bytes .answer ≡ Accepted → outOfRange ≡ false → room < roomFor bytes lines
+      → begun .answer ≡ Refused 12 0 → Begun bytes (callRules bytes outOfRange lines room) begun
+  unfolding Begun pick
+  begin-short e range short r = rw (e, range, lt-ltb room (roomFor bytes lines) short) r
 
   -- and nothing in the way
-  pub begin-goes-on : judged bytes .answer ≡ sheet-case.Accepted → outOfRange ≡ false → lines bytes count ≤ room
-      → begun ≡ judged bytes → Begun bytes outOfRange count room begun
+  pub begin-goes-on : judged bytes .answer ≡ Accepted → outOfRange ≡ false → roomFor bytes lines ≤ room
+      → begun ≡ judged bytes → Begun bytes (callRules bytes outOfRange lines room) begun
   unfolding Begun
-  begin-goes-on e range enough r =
-      begins-answering (judged bytes .answer) outOfRange (ltb room (lines bytes count))
-      (λ n p. begun .answer ≡ sheet-case.Refused n p) (begun ≡ judged bytes) e range (le-ltb room (lines bytes count) enough) r
+  begin-goes-on e range enough = begins-answering (judged bytes .answer) (callRules bytes outOfRange lines room) _ _ e (range, (le-ltb _ _ enough, tt))
 
   -- where the number is out of range, the room does not matter
-  pub room-aside : (other : ℕ) → outOfRange ≡ true → Begun bytes true other room begun → Begun bytes outOfRange count room begun
-  unfolding Begun
-  room-aside other range b = go (judged bytes .answer) outOfRange range b
+  room-aside : (other : ℕ) → outOfRange ≡ true → Begun bytes (callRules bytes true other room) begun
+      → Begun bytes (callRules bytes outOfRange lines room) begun
+  unfolding Begun pick
+  room-aside other range b = rw range (go (judged bytes .answer) b)
     where
-      go : (answer : Answer) (o : Bool) → o ≡ true
-          → Begins answer true (ltb room (lines bytes other)) (λ n p. begun .answer ≡ sheet-case.Refused n p) (begun ≡ judged bytes)
-          → Begins answer o (ltb room (lines bytes count)) (λ n p. begun .answer ≡ sheet-case.Refused n p) (begun ≡ judged bytes)
-      go (sheet-case.Refused n p) o e q = q
-      go sheet-case.Accepted true e q = q
-      go sheet-case.Accepted false e q = absurd (true≢false (sym e))
+      go : (answer : Answer)
+          → Begins answer (callRules bytes true other room) (λ n p. begun .answer ≡ Refused n p) (begun ≡ judged bytes)
+          → Begins answer (callRules bytes true lines room) (λ n p. begun .answer ≡ Refused n p) (begun ≡ judged bytes)
+      go (Refused n p) q = q
+      go Accepted q = q
 
   -- a call that counts no lines where the number is out of range, and else as many as it takes
-  pub begun-in-lines : (counted : ℕ) → counted ≡ pick outOfRange 0 count → (outOfRange ≡ false → 1 ≤ count)
-      → Begun bytes (eqb counted 0) counted room begun → Begun bytes outOfRange count room begun
+  pub begun-in-lines : (counted : ℕ) → counted ≡ pick outOfRange 0 lines → (outOfRange ≡ false → 1 ≤ lines)
+      → Begun bytes (callRules bytes (eqb counted 0) counted room) begun → Begun bytes (callRules bytes outOfRange lines room) begun
   unfolding pick
   begun-in-lines counted e some b = go outOfRange refl
     where
-      go : (o : Bool) → outOfRange ≡ o → Begun bytes outOfRange count room begun
+      go : (o : Bool) → outOfRange ≡ o → Begun bytes (callRules bytes outOfRange lines room) begun
       go true o =
-          let none : counted ≡ 0 = e ∙ ap (λ (x : Bool). pick x 0 count) o in
-          room-aside counted o (subst (λ (x : Bool). Begun bytes x counted room begun) (eq-eqb counted 0 none) b)
+          let none : counted ≡ 0 = e ∙ ap (λ (x : Bool). pick x 0 lines) o in
+          room-aside counted o (subst (λ (x : Bool). Begun bytes (callRules bytes x counted room) begun) (eq-eqb counted 0 none) b)
       go false o =
-          let all : counted ≡ count = e ∙ ap (λ (x : Bool). pick x 0 count) o in
+          let all : counted ≡ lines = e ∙ ap (λ (x : Bool). pick x 0 lines) o in
           let more : eqb counted 0 ≡ false = ne-eqb counted 0 (λ (z : counted ≡ 0). omega (arith, some o)) in
-          subst (λ (x : Bool). Begun bytes x count room begun) (more ∙ sym o) (subst (λ (n : ℕ). Begun bytes (eqb counted 0) n room begun) all b)
+          subst (λ (x : Bool). Begun bytes (callRules bytes x lines room) begun) (more ∙ sym o)
+          (subst (λ (n : ℕ). Begun bytes (callRules bytes (eqb counted 0) n room) begun) all b)
 
+module _ (bytes : List ℕ) (rules : List Rule) (begun : Judged) (b : Begun bytes rules begun) where
   -- a call that begins with a refusal gives it
-  pub begun-refused : Begun bytes outOfRange count room begun → (number place : ℕ) → begun .answer ≡ sheet-case.Refused number place
-      → (R : ℕ → ℕ → Type 0) (A : Type 0) → R number place → Begins (judged bytes .answer) outOfRange (ltb room (lines bytes count)) R A
+  pub begun-refused : (number place : ℕ) → begun .answer ≡ Refused number place
+      → (R : ℕ → ℕ → Type 0) (A : Type 0) → R number place → Begins (judged bytes .answer) rules R A
   unfolding Begun
-  begun-refused b number place e R A r = go (judged bytes .answer) refl outOfRange (ltb room (lines bytes count)) b
+  begun-refused number place e R A r =
+      begins-follows (judged bytes .answer) rules _ R _ A told
+      (λ (i : judged bytes .answer ≡ Accepted) (q : begun ≡ judged bytes).
+      absurd (accepted-not-refused number place (sym i ∙ sym (ap (λ (j : Judged). j .answer) q) ∙ e)))
+      b
     where
-      told : (n p : ℕ) → begun .answer ≡ sheet-case.Refused n p → R n p
+      told : (n p : ℕ) → begun .answer ≡ Refused n p → R n p
       told n p q =
-          let both : sheet-case.Refused number place ≡ sheet-case.Refused n p = sym e ∙ q in
+          let both : Refused number place ≡ Refused n p = sym e ∙ q in
           let same-number : number ≡ n = cc in
           let same-place : place ≡ p = cc in
           subst (λ (x : ℕ). R n x) same-place (subst (λ (x : ℕ). R x place) same-number r)
 
-      go : (answer : Answer) → judged bytes .answer ≡ answer → (o f : Bool)
-          → Begins answer o f (λ n p. begun .answer ≡ sheet-case.Refused n p) (begun ≡ judged bytes) → Begins answer o f R A
-      go (sheet-case.Refused n p) i o f q = told n p q
-      go sheet-case.Accepted i true f q = told 11 0 q
-      go sheet-case.Accepted i false true q = told 12 0 q
-      go sheet-case.Accepted i false false q = absurd (accepted-not-refused number place (sym i ∙ sym (ap (λ (j : Judged). j .answer) q) ∙ e))
-
-  -- a call that begins without one has the judged sheet, a number in range and room enough
-  pub begun-accepted : Begun bytes outOfRange count room begun → begun .answer ≡ sheet-case.Accepted
-      → (judged bytes .answer ≡ sheet-case.Accepted) × (outOfRange ≡ false) × (ltb room (lines bytes count) ≡ false) × (begun ≡ judged bytes)
+  -- a call that begins without one has the judged sheet and breaks no rule
+  pub begun-accepted : begun .answer ≡ Accepted → (begun ≡ judged bytes) × (judged bytes .answer ≡ Accepted) × Kept rules
   unfolding Begun
-  begun-accepted b e = go (judged bytes .answer) refl outOfRange (ltb room (lines bytes count)) b
-    where
-      go : (answer : Answer) → judged bytes .answer ≡ answer → (o f : Bool)
-          → Begins answer o f (λ n p. begun .answer ≡ sheet-case.Refused n p) (begun ≡ judged bytes)
-          → (judged bytes .answer ≡ sheet-case.Accepted) × (o ≡ false) × (f ≡ false) × (begun ≡ judged bytes)
-      go (sheet-case.Refused n p) i o f q = absurd (accepted-not-refused n p (sym e ∙ q))
-      go sheet-case.Accepted i true f q = absurd (accepted-not-refused 11 0 (sym e ∙ q))
-      go sheet-case.Accepted i false true q = absurd (accepted-not-refused 12 0 (sym e ∙ q))
-      go sheet-case.Accepted i false false q = (i, refl, refl, q)
+  begun-accepted e =
+      came-to-answer (judged bytes .answer) rules _ (begun ≡ judged bytes)
+      (λ n p (q : begun .answer ≡ Refused n p). accepted-not-refused n p (sym e ∙ q)) b

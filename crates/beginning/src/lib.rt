@@ -9,18 +9,18 @@ ghost use lib.Dec.{ltb, eqb};
 ghost use Rattle.meaning.specs.Demand.{longestTime};
 ghost use Rattle.fields.specs.Deciding.{pick};
 ghost use Rattle.sheet.specs.declared.Answer.the-variants.{Refused};
-ghost use Rattle.beginning.specs.Beginning.{badAmount, Begun};
+ghost use Rattle.beginning.specs.Beginning.{badAmount, callRules, intervalRules, amountRules, Begun};
 
 // A call with an interval or a horizon, which takes a line of cells for each interval from 0 on.
 pub fn begin_interval(bytes: &[u8], interval: u64, room: usize) -> Judged
-    ensures { λ r. ⌜ Begun (now (bytes .entry)) (ltb longestTime interval) (interval + 1) room r ⌝ }
+    ensures { λ r. ⌜ Begun (now (bytes .entry)) (intervalRules (now (bytes .entry)) interval room) r ⌝ }
 {
     begin(bytes, interval_lines(interval), room)
 }
 
 // A call with an amount, which takes a line of cells for each amount from 1 on.
 pub fn begin_amount(bytes: &[u8], amount: u64, room: usize) -> Judged
-    ensures { λ r. ⌜ Begun (now (bytes .entry)) (badAmount amount) amount room r ⌝ }
+    ensures { λ r. ⌜ Begun (now (bytes .entry)) (amountRules (now (bytes .entry)) amount room) r ⌝ }
 {
     begin(bytes, amount_lines(amount), room)
 }
@@ -50,7 +50,7 @@ fn amount_lines(amount: u64) -> usize
 // The sheet where the call may go on, else the first of the refusals 1 to 12: the sheet's own, rule 11 where there are no lines, rule 12 where the room is too small.
 fn begin(bytes: &[u8], lines: usize, room: usize) -> Judged
     requires { ⌜ lines ≤ longestTime + 1 ⌝ }
-    ensures { λ r. ⌜ Begun (now (bytes .entry)) (eqb lines 0) lines room r ⌝ }
+    ensures { λ r. ⌜ Begun (now (bytes .entry)) (callRules (now (bytes .entry)) (eqb lines 0) lines room) r ⌝ }
 {
     let judged = judge(bytes);
     let answer = judged.answer;

@@ -5,11 +5,10 @@ use native.Mathlib.Omega.{arith}
 use mathlib.Core.Path.{_≡_}
 use mathlib.Core.Logic.{_↔_}
 use mathlib.Core.List.{List}
-use lib.Dec.{ltb}
 use lib.ListN.{length}
 use borrow.Author.Tests.{le-ltb}
 use Rattle.meaning.specs.Cells.{ByInterval}
-use Rattle.meaning.specs.Demand.{longestTime, IsDemand}
+use Rattle.meaning.specs.Demand.{IsDemand}
 use Rattle.meaning.specs.Verdict.{Verdict, IsVerdict}
 use Rattle.meaning.proofs.Unique.{demand-unique}
 use Rattle.sheet.specs.Judging.{judged}
@@ -17,8 +16,8 @@ use Rattle.sheet.specs.Meaning.{graphOf}
 use Rattle.sheet.specs.Proper.{Bytes}
 use Rattle.sheet.specs.declared.Answer.the-variants.{Accepted}
 use Rattle.tables.proofs.Lines.{filled-lines, line-demand}
-use Rattle.beginning.specs.Beginning.{graph, tasks, rows, lines, FilledByInterval}
-use Rattle.desk.specs.Calls.{VerdictRefuses, VerdictAnswers, VerdictCall, VerdictByIntervalCall, verdictAnswer}
+use Rattle.beginning.specs.Beginning.{graph, tasks, rows, FilledByInterval, intervalRules}
+use Rattle.desk.specs.Calls.{VerdictAnswers, VerdictCall, VerdictByIntervalCall, verdictAnswer}
 use Rattle.desk.specs.declared.VerdictAnswer.{VerdictAnswer}
 use Rattle.beginning.proofs.Beginnings.{comes-to-answer}
 use Rattle.sheet.proofs.AcceptedReady.{accepted-ready}
@@ -29,9 +28,8 @@ module _ (bytes : List ℕ) (fit : Bytes bytes) (accepted : judged bytes .answer
   answered : VerdictAnswers FilledByInterval bytes horizon old answer new
   unfolding VerdictCall
   answered =
-      comes-to-answer (judged bytes .answer) (ltb longestTime horizon) (ltb (length old) (lines bytes (horizon + 1)))
-      (VerdictRefuses old answer new) (VerdictAnswers FilledByInterval bytes horizon old answer new)
-      accepted (le-ltb longestTime horizon (is .in-range)) (le-ltb (length old) (lines bytes (horizon + 1)) (is .fits)) call
+      comes-to-answer (judged bytes .answer) (intervalRules bytes horizon (length old)) _ (VerdictAnswers FilledByInterval bytes horizon old answer new)
+      accepted (le-ltb _ _ (is .in-range), (le-ltb _ _ (is .fits), tt)) call
 
   pub demand-right : (t : ℕ) → t ≤ horizon → IsDemand (graph bytes) t (demandIn (rows bytes) new t)
   unfolding graphOf

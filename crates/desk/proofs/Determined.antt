@@ -9,15 +9,16 @@ use lib.Dec.{ltb, eqb}
 use lib.ListN.{length, drop}
 use lib.Seq.{ext-getD}
 use native.Mathlib.Omega.{arith}
-use Rattle.meaning.specs.Demand.{longestTime, noTime}
+use Rattle.meaning.specs.Demand.{noTime}
 use Rattle.meaning.specs.Cells.{ByInterval, ByAmount, Filled}
 use Rattle.meaning.proofs.Unique.{demand-unique, shortest-unique, best-unique, least-unique, witness-unique}
 use Rattle.meaning.proofs.Margins.{margin-unique}
 use Rattle.meaning.proofs.Verdicts.{verdict-unique}
 use Rattle.meaning.proofs.Filling.{filled-unique}
+use Rattle.fields.specs.Deciding.{pick}
 use Rattle.sheet.specs.Judging.{judged}
-use Rattle.desk.specs.Calls.{Either, DemandRefuses, DemandGives, DemandAnswers, DemandCall, MarginRefuses, MarginAnswers, MarginCall, ShortestRefuses, ShortestGives, ShortestAnswers, ShortestCall, VerdictRefuses, VerdictAnswers, VerdictCall, VerdictByIntervalCall, VerdictByAmountCall, verdictAnswer}
-use Rattle.beginning.specs.Beginning.{badAmount, graph, tasks, rows, lines, FilledByInterval, FilledByAmount}
+use Rattle.desk.specs.Calls.{DemandRefuses, DemandGives, DemandAnswers, DemandCall, MarginRefuses, MarginAnswers, MarginCall, ShortestRefuses, ShortestGives, ShortestAnswers, ShortestCall, VerdictRefuses, VerdictAnswers, VerdictCall, VerdictByIntervalCall, VerdictByAmountCall, verdictAnswer}
+use Rattle.beginning.specs.Beginning.{graph, tasks, rows, FilledByInterval, FilledByAmount, intervalRules, amountRules}
 use Rattle.desk.specs.declared.DemandAnswer as demand
 use Rattle.desk.specs.declared.DemandAnswer.the-variants as demand-case
 use Rattle.desk.specs.declared.MarginAnswer as margin
@@ -28,9 +29,10 @@ use Rattle.desk.specs.declared.VerdictAnswer as verdict
 use Rattle.beginning.proofs.Beginnings.{begins-alike}
 
 -- two promises chosen by the same test are both the one or both the other
-either-alike : (test : Bool) (T U E F C : Type 0) → (T → U → C) → (E → F → C) → Either test T E → Either test U F → C
-either-alike true T U E F C yes-both no-both a b = yes-both a b
-either-alike false T U E F C yes-both no-both a b = no-both a b
+pick-alike : (test : Bool) (T U E F C : Type 0) → (T → U → C) → (E → F → C) → pick test T E → pick test U F → C
+unfolding pick
+pick-alike true T U E F C yes-both no-both a b = yes-both a b
+pick-alike false T U E F C yes-both no-both a b = no-both a b
 
 -- whole lines of cells that have one right value each determine the area, also where a line has none
 lines-unique : (n : ℕ) (Right : ℕ → ℕ → ℕ → Type 0) (one : (line k v u : ℕ) → Right line k v → Right line k u → v ≡ u)
@@ -56,7 +58,7 @@ module _ (bytes : List ℕ) (t : ℕ) (cells area : List ℕ) (x y : demand.Dema
   gives-alike : (amount : ℕ) (witness : List ℕ) → DemandGives area x area₁ amount witness → DemandGives area y area₂ amount witness
       → (x ≡ y) × (area₁ ≡ area₂)
   gives-alike amount witness =
-      either-alike (ltb (length area) (length witness)) _ _ _ _ _
+      pick-alike (ltb (length area) (length witness)) _ _ _ _ _
       (λ (p : (x ≡ demand-case.Refused 13 0) × (area₁ ≡ area)) (q : (y ≡ demand-case.Refused 13 0) × (area₂ ≡ area)).
       (p .0 ∙ sym (q .0), p .1 ∙ sym (q .1)))
       (λ (p : (x ≡ demand-case.Found amount (length witness)) × (area₁ ≡ witness ++ drop (length witness) area))
@@ -78,7 +80,7 @@ module _ (bytes : List ℕ) (t : ℕ) (cells area : List ℕ) (x y : demand.Dema
       → (x ≡ y) × (cells₁ ≡ cells₂) × (area₁ ≡ area₂)
   unfolding DemandCall
   demand-determined =
-      begins-alike (judged bytes .answer) (ltb longestTime t) (ltb (length cells) (lines bytes (t + 1)))
+      begins-alike (judged bytes .answer) (intervalRules bytes t (length cells))
       (DemandRefuses cells area x cells₁ area₁) (DemandRefuses cells area y cells₂ area₂) _ _ _
       (λ number place (p : DemandRefuses cells area x cells₁ area₁ number place) (q : DemandRefuses cells area y cells₂ area₂ number place).
       (p .0 ∙ sym (q .0), p .1 ∙ sym (q .1), p .2 ∙ sym (q .2)))
@@ -95,7 +97,7 @@ module _ (bytes : List ℕ) (t : ℕ) (cells : List ℕ) (x y : margin.MarginAns
   pub margin-determined : MarginCall bytes t cells x cells₁ → MarginCall bytes t cells y cells₂ → (x ≡ y) × (cells₁ ≡ cells₂)
   unfolding MarginCall
   margin-determined =
-      begins-alike (judged bytes .answer) (ltb longestTime t) (ltb (length cells) (lines bytes (t + 1)))
+      begins-alike (judged bytes .answer) (intervalRules bytes t (length cells))
       (MarginRefuses cells x cells₁) (MarginRefuses cells y cells₂) _ _ _
       (λ number place (p : MarginRefuses cells x cells₁ number place) (q : MarginRefuses cells y cells₂ number place).
       (p .0 ∙ sym (q .0), p .1 ∙ sym (q .1)))
@@ -107,7 +109,7 @@ module _ (bytes : List ℕ) (b : ℕ) (cells : List ℕ) (x y : shortest.Shortes
   shortest-answered (filled₁, (time₁, is₁, gives₁)) (filled₂, (time₂, is₂, gives₂)) =
       let same-time : time₂ ≡ time₁ = shortest-unique (graph bytes) b time₂ time₁ is₂ is₁ in
       let gives : ShortestGives y time₁ = subst (λ (z : ℕ). ShortestGives y z) same-time gives₂ in (
-        either-alike (eqb time₁ noTime) _ _ _ _ _
+        pick-alike (eqb time₁ noTime) _ _ _ _ _
             (λ (p : x ≡ shortest-case.Refused 14 0) (q : y ≡ shortest-case.Refused 14 0). p ∙ sym q)
             (λ (p : x ≡ shortest-case.Found time₁) (q : y ≡ shortest-case.Found time₁). p ∙ sym q)
             gives₁ gives,
@@ -117,7 +119,7 @@ module _ (bytes : List ℕ) (b : ℕ) (cells : List ℕ) (x y : shortest.Shortes
   pub shortest-determined : ShortestCall bytes b cells x cells₁ → ShortestCall bytes b cells y cells₂ → (x ≡ y) × (cells₁ ≡ cells₂)
   unfolding ShortestCall
   shortest-determined =
-      begins-alike (judged bytes .answer) (badAmount b) (ltb (length cells) (lines bytes b))
+      begins-alike (judged bytes .answer) (amountRules bytes b (length cells))
       (ShortestRefuses cells x cells₁) (ShortestRefuses cells y cells₂) _ _ _
       (λ number place (p : ShortestRefuses cells x cells₁ number place) (q : ShortestRefuses cells y cells₂ number place).
       (p .0 ∙ sym (q .0), p .1 ∙ sym (q .1)))
@@ -138,7 +140,7 @@ module _ (FilledBy : List ℕ → ℕ → List ℕ → List ℕ → Type 0)
       → (x ≡ y) × (cells₁ ≡ cells₂)
   unfolding VerdictCall
   verdict-determined =
-      begins-alike (judged bytes .answer) (ltb longestTime horizon) (ltb (length cells) (lines bytes (horizon + 1)))
+      begins-alike (judged bytes .answer) (intervalRules bytes horizon (length cells))
       (VerdictRefuses cells x cells₁) (VerdictRefuses cells y cells₂) _ _ _
       (λ number place (p : VerdictRefuses cells x cells₁ number place) (q : VerdictRefuses cells y cells₂ number place).
       (p .0 ∙ sym (q .0), p .1 ∙ sym (q .1)))

@@ -3,12 +3,13 @@ use Prim.Native.Nat.{ℕ, _+_, _≤_}
 use native.Mathlib.Omega.{arith}
 use mathlib.Core.Path.{_≡_, refl, sym, _∙_, subst}
 use mathlib.Core.Bool.{Bool, true, false}
-use mathlib.Core.List.{List, _++_}
+use mathlib.Core.List.{List, [], _∷_, _++_}
 use lib.Dec.{ltb}
 use lib.ListN.{length, drop}
 use borrow.Author.Tests.{le-ltb}
 use Rattle.meaning.specs.Demand.{longestTime}
 use Rattle.meaning.proofs.Bounds.{witness-at-most}
+use Rattle.fields.specs.Deciding.{_when_, pick}
 use Rattle.sheet.specs.Judging.{judged}
 use Rattle.sheet.specs.Proper.{Bytes}
 use Rattle.sheet.proofs.Accepted.{accepted-proper}
@@ -16,8 +17,8 @@ use Rattle.sheet.proofs.ProperGraph.{proper-sound}
 use Rattle.sheet.proofs.Refusals.{refused-number}
 use Rattle.sheet.specs.declared.Answer.{Answer}
 use Rattle.sheet.specs.declared.Answer.the-variants as sheet-case
-use Rattle.beginning.specs.Beginning.{Begins, graph, lines}
-use Rattle.desk.specs.Calls.{Either, DemandRefuses, DemandAnswers, DemandCall}
+use Rattle.beginning.specs.Beginning.{graph, roomFor, Begins}
+use Rattle.desk.specs.Calls.{DemandRefuses, DemandAnswers, DemandCall}
 use Rattle.desk.specs.declared.DemandAnswer as demand
 use Rattle.desk.specs.declared.DemandAnswer.the-variants as demand-case
 use Rattle.desk.proofs.Agreement.{found-not-refused}
@@ -32,22 +33,23 @@ module _ (bytes : List ℕ) (are : Bytes bytes) (t : ℕ) (cells area : List ℕ
 
   -- a witness has at most a row for each tick, so it is not 13 where the call comes to its answer
   witness-fits : judged bytes .answer ≡ sheet-case.Accepted → DemandAnswers bytes t cells area answer cells′ area′ → ⊥
+  unfolding pick
   witness-fits accepted (filled, (amount, witness, is, first, gives)) =
       let short : length witness ≤ t = witness-at-most (graph bytes) (proper-sound bytes (judged bytes .sheet) (accepted-proper bytes are accepted)) t witness first in
       let found =
       subst
       (λ (test : Bool).
-      Either test ((answer ≡ demand-case.Refused 13 0) × (area′ ≡ area)) ((answer ≡ demand-case.Found amount (length witness)) × (area′ ≡ witness ++ drop (length witness) area)))
+      pick test ((answer ≡ demand-case.Refused 13 0) × (area′ ≡ area)) ((answer ≡ demand-case.Found amount (length witness)) × (area′ ≡ witness ++ drop (length witness) area)))
       (le-ltb (length area) (length witness) (omega arith))
       gives in
       found-not-refused amount (length witness) 13 0 (sym (found .0) ∙ told)
 
   pub area-suffices : DemandCall bytes t cells area answer cells′ area′ → ⊥
-  unfolding DemandCall
-  area-suffices call = go (judged bytes .answer) refl (ltb longestTime t) (ltb (length cells) (lines bytes (t + 1))) call
+  unfolding DemandCall pick
+  area-suffices call = go (judged bytes .answer) refl (ltb longestTime t) (ltb (length cells) (roomFor bytes (t + 1))) call
     where
       go : (a : Answer) → judged bytes .answer ≡ a → (o f : Bool)
-          → Begins a o f (DemandRefuses cells area answer cells′ area′) (DemandAnswers bytes t cells area answer cells′ area′) → ⊥
+          → Begins a (11 when o ∷ 12 when f ∷ []) (DemandRefuses cells area answer cells′ area′) (DemandAnswers bytes t cells area answer cells′ area′) → ⊥
       go (sheet-case.Refused n place) e o f r = other-number n place (omega (arith, refused-number bytes n place e)) r
       go sheet-case.Accepted e true f r = other-number 11 0 (omega arith) r
       go sheet-case.Accepted e false true r = other-number 12 0 (omega arith) r

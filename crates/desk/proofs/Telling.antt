@@ -1,5 +1,6 @@
 -- What the tables of an accepted sheet tell a call: the numbers read off its cells are those that the call promises.
 use Prim.Native.Nat.{ℕ, _+_, _*_, _^_, _≤_, _<_}
+use native.Mathlib.Nat.{mul-le-mul-left}
 use native.Mathlib.Omega.{arith}
 use mathlib.Core.Path.{_≡_, refl, sym, ap, ap₂, _∙_, subst}
 use mathlib.Core.List.{List, _++_}
@@ -18,6 +19,7 @@ use Rattle.meaning.specs.Computed.{cellAt, cellFor, maxBelow, minBelow, witness
 use Rattle.meaning.proofs.Differences.{sub-is64}
 use Rattle.meaning.proofs.Existence.{witness-of}
 use Rattle.meaning.proofs.Margins.{difference, margin-sub}
+use Rattle.fields.specs.Deciding.{pick}
 use Rattle.sheet.specs.Judging.{judged}
 use Rattle.sheet.specs.Meaning.{graphOf, tasksOf}
 use Rattle.fields.specs.declared.values.Sheet.{Sheet}
@@ -29,7 +31,7 @@ use Rattle.overruns.specs.Sweeping.{IsSwept, verdictOf}
 use Rattle.overruns.specs.declared.sweep.Swept.{Swept}
 use Rattle.tables.proofs.Lines.{filled-lines, line-demand}
 use Rattle.tables.proofs.Amounts.{line-shortest}
-use Rattle.beginning.specs.Beginning.{graph, tasks, rows, lines}
+use Rattle.beginning.specs.Beginning.{graph, tasks, rows, roomFor}
 use Rattle.desk.specs.Calls.{DemandAnswers, MarginAnswers, ShortestGives, ShortestAnswers, VerdictAnswers, verdictAnswer}
 use Rattle.desk.specs.WhichTable.{filledBy}
 use Rattle.desk.specs.declared.DemandAnswer.the-variants as demand-case
@@ -38,16 +40,22 @@ use Rattle.desk.specs.declared.ShortestAnswer as shortest
 use Rattle.desk.specs.declared.ShortestAnswer.the-variants as shortest-case
 use Rattle.desk.specs.declared.VerdictAnswer as verdict
 
+-- where there is room for some lines, there is for fewer
+pub room-for-fewer : (rows count lines cells : ℕ) → lines ≤ count → rows * count ≤ cells → rows * lines ≤ cells
+room-for-fewer rows count lines cells fewer room =
+    let less : rows * lines ≤ rows * count = mul-le-mul-left {m = lines} {n = count} rows fewer in
+    omega arith
+
 -- a sheet in hand, and the bytes that it was judged from
 module _ (bytes : List ℕ) (sheet : Sheet) (is : sheet ≡ judged bytes .sheet) (ready : Ready bytes sheet) where
   -- lines filled for the sheet, of either table, are those that the call promises
   lines-filled : (Right : Graph → ℕ → ℕ → ℕ → Type 0) (count : ℕ) (old new : List ℕ)
-      → Filled (sheet .tally .rows) (Right (graphOf bytes sheet)) old new (sheet .tally .rows * count) → Filled (rows bytes) (Right (graph bytes)) old new (lines bytes count)
+      → Filled (sheet .tally .rows) (Right (graphOf bytes sheet)) old new (sheet .tally .rows * count) → Filled (rows bytes) (Right (graph bytes)) old new (roomFor bytes count)
   lines-filled Right count old new =
       subst (λ (s : Sheet). Filled (s .tally .rows) (Right (graphOf bytes s)) old new (s .tally .rows * count)) is
 
   -- there is room for the lines of the sheet
-  pub room-told : (count : ℕ) (cells : List ℕ) → lines bytes count ≤ length cells → sheet .tally .rows * count ≤ length cells
+  pub room-told : (count : ℕ) (cells : List ℕ) → roomFor bytes count ≤ length cells → sheet .tally .rows * count ≤ length cells
   room-told count cells = subst (λ (s : Sheet). s .tally .rows * count ≤ length cells) (sym is)
 
   module _ (t : ℕ) (old new : List ℕ) (room : sheet .tally .rows * (t + 1) ≤ length old)
@@ -88,6 +96,7 @@ module _ (bytes : List ℕ) (sheet : Sheet) (is : sheet ≡ judged bytes .sheet)
     pub demand-too-long : (amount : ℕ) (area : List ℕ)
         → amount ≡ maxBelow (sheet .tally .rows) (cellAt (sheet .tally .rows) new t) → length area < length (witnessOf (graphOf bytes sheet) t)
         → DemandAnswers bytes t old area (demand-case.Refused 13 0) new area
+    unfolding pick
     demand-too-long amount area most long = (
       lines-filled ByInterval (t + 1) old new filled,
       (
@@ -104,6 +113,7 @@ module _ (bytes : List ℕ) (sheet : Sheet) (is : sheet ≡ judged bytes .sheet)
         → amount ≡ maxBelow (sheet .tally .rows) (cellAt (sheet .tally .rows) new t) → count ≡ length (witnessOf (graphOf bytes sheet) t)
         → length (witnessOf (graphOf bytes sheet) t) ≤ length area → area′ ≡ witnessOf (graphOf bytes sheet) t ++ drop (length (witnessOf (graphOf bytes sheet) t)) area
         → DemandAnswers bytes t old area (demand-case.Found amount count) new area′
+    unfolding pick
     demand-written amount count area area′ most counted fits written = (
       lines-filled ByInterval (t + 1) old new filled,
       (
@@ -148,9 +158,11 @@ module _ (bytes : List ℕ) (sheet : Sheet) (is : sheet ≡ judged bytes .sheet)
 
 -- no time is 14, and any other is found
 pub gives-none : (time : ℕ) → time ≡ noTime → ShortestGives (shortest-case.Refused 14 0) time
+unfolding pick
 gives-none time e = rw (eq-eqb time noTime e) refl
 
 pub gives-time : (time : ℕ) → (time ≡ noTime → ⊥) → ShortestGives (shortest-case.Found time) time
+unfolding pick
 gives-time time e = rw (ne-eqb time noTime e) refl
 
 -- a difference of two numbers that are not too large keeps its value as a signed number

@@ -1,15 +1,15 @@
 -- What each call promises: the answer, every lent cell and every byte of the witness area, for any bytes and any numbers.
 use Prim.Native.Nat.{ℕ, _+_}
 use mathlib.Core.Path.{_≡_}
-use mathlib.Core.Bool.{Bool, true, false}
 use mathlib.Core.List.{List, _++_}
 use lib.Dec.{ltb, eqb}
 use lib.ListN.{length, drop}
 use lib.IntN.{ℤ}
-use Rattle.meaning.specs.Demand.{longestTime, noTime, IsDemand, IsWitness, IsShortest}
+use Rattle.meaning.specs.Demand.{noTime, IsDemand, IsWitness, IsShortest}
 use Rattle.meaning.specs.Verdict.{Verdict, holds, overrun, IsMargin, IsVerdict}
+use Rattle.fields.specs.Deciding.{pick}
 use Rattle.sheet.specs.Judging.{judged}
-use Rattle.beginning.specs.Beginning.{graph, tasks, Begins, lines, FilledByInterval, FilledByAmount, badAmount}
+use Rattle.beginning.specs.Beginning.{graph, tasks, FilledByInterval, FilledByAmount, intervalRules, amountRules, Begins}
 use Rattle.desk.specs.declared.DemandAnswer as demand
 use Rattle.desk.specs.declared.DemandAnswer.the-variants as demand-case
 use Rattle.desk.specs.declared.MarginAnswer as margin
@@ -19,11 +19,6 @@ use Rattle.desk.specs.declared.ShortestAnswer.the-variants as shortest-c
 use Rattle.desk.specs.declared.VerdictAnswer as verdict
 use Rattle.desk.specs.declared.VerdictAnswer.the-variants as verdict-case
 
--- one of two promises, by a test
-abbrev pub Either : Bool → Type 0 → Type 0 → Type 0
-Either true Then Else = Then
-Either false Then Else = Else
-
 -- a refused demand changes no lent cell or byte
 abbrev pub DemandRefuses : List ℕ → List ℕ → demand.DemandAnswer → List ℕ → List ℕ → ℕ → ℕ → Type 0
 DemandRefuses cells area answer cells′ area′ number place =
@@ -32,7 +27,7 @@ DemandRefuses cells area answer cells′ area′ number place =
 -- the amount and the witness as answered: the witness's rows stand at the front of the area, or rule 13 is broken, with the area untouched, where they do not fit
 abbrev pub DemandGives : List ℕ → demand.DemandAnswer → List ℕ → ℕ → List ℕ → Type 0
 DemandGives area answer area′ amount witness =
-    Either (ltb (length area) (length witness))
+    pick (ltb (length area) (length witness))
     ((answer ≡ demand-case.Refused 13 0) × (area′ ≡ area))
     ((answer ≡ demand-case.Found amount (length witness)) × (area′ ≡ witness ++ drop (length witness) area))
 
@@ -45,7 +40,7 @@ DemandAnswers bytes t cells area answer cells′ area′ =
 
 unfoldable pub DemandCall : List ℕ → ℕ → List ℕ → List ℕ → demand.DemandAnswer → List ℕ → List ℕ → Type 0
 DemandCall bytes t cells area answer cells′ area′ =
-    Begins (judged bytes .answer) (ltb longestTime t) (ltb (length cells) (lines bytes (t + 1)))
+    Begins (judged bytes .answer) (intervalRules bytes t (length cells))
     (DemandRefuses cells area answer cells′ area′) (DemandAnswers bytes t cells area answer cells′ area′)
 
 abbrev pub MarginRefuses : List ℕ → margin.MarginAnswer → List ℕ → ℕ → ℕ → Type 0
@@ -59,7 +54,7 @@ MarginAnswers bytes t cells answer cells′ =
 
 unfoldable pub MarginCall : List ℕ → ℕ → List ℕ → margin.MarginAnswer → List ℕ → Type 0
 MarginCall bytes t cells answer cells′ =
-    Begins (judged bytes .answer) (ltb longestTime t) (ltb (length cells) (lines bytes (t + 1)))
+    Begins (judged bytes .answer) (intervalRules bytes t (length cells))
     (MarginRefuses cells answer cells′) (MarginAnswers bytes t cells answer cells′)
 
 abbrev pub ShortestRefuses : List ℕ → shortest.ShortestAnswer → List ℕ → ℕ → ℕ → Type 0
@@ -67,7 +62,7 @@ ShortestRefuses cells answer cells′ number place = (answer ≡ shortest-case.R
 
 -- the time as answered, or rule 14 is broken where no sequence reaches the amount
 abbrev pub ShortestGives : shortest.ShortestAnswer → ℕ → Type 0
-ShortestGives answer time = Either (eqb time noTime) (answer ≡ shortest-case.Refused 14 0) (answer ≡ shortest-case.Found time)
+ShortestGives answer time = pick (eqb time noTime) (answer ≡ shortest-case.Refused 14 0) (answer ≡ shortest-case.Found time)
 
 -- the shortest interval for b
 abbrev pub ShortestAnswers : List ℕ → ℕ → List ℕ → shortest.ShortestAnswer → List ℕ → Type 0
@@ -77,7 +72,7 @@ ShortestAnswers bytes b cells answer cells′ =
 
 unfoldable pub ShortestCall : List ℕ → ℕ → List ℕ → shortest.ShortestAnswer → List ℕ → Type 0
 ShortestCall bytes b cells answer cells′ =
-    Begins (judged bytes .answer) (badAmount b) (ltb (length cells) (lines bytes b))
+    Begins (judged bytes .answer) (amountRules bytes b (length cells))
     (ShortestRefuses cells answer cells′) (ShortestAnswers bytes b cells answer cells′)
 
 -- a verdict as an answer
@@ -96,7 +91,7 @@ VerdictAnswers FilledBy bytes horizon cells answer cells′ =
 
 unfoldable pub VerdictCall : (List ℕ → ℕ → List ℕ → List ℕ → Type 0) → List ℕ → ℕ → List ℕ → verdict.VerdictAnswer → List ℕ → Type 0
 VerdictCall FilledBy bytes horizon cells answer cells′ =
-    Begins (judged bytes .answer) (ltb longestTime horizon) (ltb (length cells) (lines bytes (horizon + 1)))
+    Begins (judged bytes .answer) (intervalRules bytes horizon (length cells))
     (VerdictRefuses cells answer cells′) (VerdictAnswers FilledBy bytes horizon cells answer cells′)
 
 abbrev pub VerdictByIntervalCall : List ℕ → ℕ → List ℕ → verdict.VerdictAnswer → List ℕ → Type 0

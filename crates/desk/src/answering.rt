@@ -24,7 +24,7 @@ ghost use Rattle.meaning.specs.Demand.{longestTime};
 ghost use Rattle.sheet.specs.Judging.{judged};
 ghost use Rattle.sheet.specs.Ready.{Ready};
 ghost use Rattle.overruns.specs.Sweeping.{verdictOf};
-ghost use Rattle.beginning.specs.Beginning.{lines};
+ghost use Rattle.beginning.specs.Beginning.{roomFor};
 ghost use Rattle.desk.specs.Calls.{DemandAnswers, MarginAnswers, ShortestAnswers, VerdictAnswers, verdictAnswer};
 ghost use Rattle.desk.specs.WhichTable.{filledBy};
 
@@ -39,7 +39,7 @@ pub(crate) fn demand_in(
     requires { ⌜ Ready (now bytes) sheet ⌝ }
     requires { ⌜ sheet ≡ judged (now bytes) .sheet ⌝ }
     requires { ⌜ t ≤ longestTime ⌝ }
-    requires { ⌜ lines (now bytes) (t + 1) ≤ length (now cells) ⌝ }
+    requires { ⌜ roomFor (now bytes) (t + 1) ≤ length (now cells) ⌝ }
     ensures { λ r. ⌜ DemandAnswers (now (bytes .entry)) t (now (cells .entry)) (now (area .entry)) r (now (cells .exit)) (now (area .exit)) ⌝ }
 {
     fill_by_interval(bytes, sheet, cells, t);
@@ -64,7 +64,7 @@ pub(crate) fn margin_in(bytes: &[u8], sheet: Sheet, t: usize, cells: &mut [u32])
     requires { ⌜ Ready (now bytes) sheet ⌝ }
     requires { ⌜ sheet ≡ judged (now bytes) .sheet ⌝ }
     requires { ⌜ t ≤ longestTime ⌝ }
-    requires { ⌜ lines (now bytes) (t + 1) ≤ length (now cells) ⌝ }
+    requires { ⌜ roomFor (now bytes) (t + 1) ≤ length (now cells) ⌝ }
     ensures { λ r. ⌜ MarginAnswers (now (bytes .entry)) t (now (cells .entry)) r (now (cells .exit)) ⌝ }
 {
     fill_by_interval(bytes, sheet, cells, t);
@@ -85,7 +85,7 @@ pub(crate) fn shortest_in(
     requires { ⌜ Ready (now bytes) sheet ⌝ }
     requires { ⌜ sheet ≡ judged (now bytes) .sheet ⌝ }
     requires { ⌜ 1 ≤ amount ⌝ }
-    requires { ⌜ lines (now bytes) amount ≤ length (now cells) ⌝ }
+    requires { ⌜ roomFor (now bytes) amount ≤ length (now cells) ⌝ }
     ensures { λ r. ⌜ ShortestAnswers (now (bytes .entry)) amount (now (cells .entry)) r (now (cells .exit)) ⌝ }
 {
     fill_by_amount(bytes, sheet, cells, amount);
@@ -111,7 +111,7 @@ pub(crate) fn verdict_in(
     requires { ⌜ Ready (now bytes) sheet ⌝ }
     requires { ⌜ sheet ≡ judged (now bytes) .sheet ⌝ }
     requires { ⌜ horizon ≤ longestTime ⌝ }
-    requires { ⌜ lines (now bytes) (horizon + 1) ≤ length (now cells) ⌝ }
+    requires { ⌜ roomFor (now bytes) (horizon + 1) ≤ length (now cells) ⌝ }
     ensures { λ r. ⌜ VerdictAnswers (filledBy table) (now (bytes .entry)) horizon (now (cells .entry)) r (now (cells .exit)) ⌝ }
 {
     fill(table, bytes, sheet, cells, horizon);

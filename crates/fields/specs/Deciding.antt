@@ -10,7 +10,7 @@ pub data Rule : Type 0 where
   _when_ : ℕ → Bool → Rule
 
 -- a where the test holds, else b
-unfoldable pub pick : {A : Type 0} → Bool → A → A → A
+unfoldable pub pick {ℓ} : {A : Type ℓ} → Bool → A → A → A
 pick true a b = a
 pick false a b = b
 
@@ -19,7 +19,7 @@ abbrev pub _or_ : Bool → Bool → Bool
 _or_ a b = pick a true b
 
 -- what `refuse` makes of the number of the first broken rule, or `ok` where none is broken
-abbrev pub judgedBy : {A : Type 0} → (ℕ → A) → List Rule → A → A
+abbrev pub judgedBy {ℓ} : {A : Type ℓ} → (ℕ → A) → List Rule → A → A
 judgedBy refuse [] ok = ok
 judgedBy refuse (n when b ∷ rules) ok = pick b (refuse n) (judgedBy refuse rules ok)
 

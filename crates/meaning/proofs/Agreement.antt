@@ -7,7 +7,7 @@ use native.Mathlib.Omega.{arith}
 use Rattle.meaning.specs.Graph.{Graph}
 use Rattle.meaning.specs.Sequence.{amount}
 use Rattle.meaning.specs.Extreme.{Largest}
-use Rattle.meaning.specs.Demand.{longestTime, noTime, InTime, IsDemand, IsShortest}
+use Rattle.meaning.specs.Demand.{longestTime, noTime, InTime, IsDemand, Enough, IsShortest}
 use Rattle.meaning.proofs.Tests.{lt-or}
 
 -- where more lists count, the largest is no smaller
@@ -33,14 +33,11 @@ module _ (g : Graph) (b x : ℕ) (hb : 1 ≤ b) (shortest : IsShortest g b x) wh
         (demand .reached)),
   )
 
-  -- there is no shortest interval for b exactly when the demand at the longest time is below b
-  pub agree-none : (d : ℕ) → IsDemand g longestTime d → (x ≡ noTime) ↔ (d < b)
-  agree-none d demand = (
-    (λ e. ⊎-elim (λ l. l) (λ l. absurd (omega (arith, e, agree longestTime d (omega arith) demand .1 l))) (lt-or d b)),
-    (λ l. ⊎-elim
-        (λ r. absurd (omega (arith, r .1 .1, demand .bound (r .0) (r .1 .0, r .1 .2))))
-        (λ r. r .0)
-        (shortest .reached)),
+  -- there is none exactly when no sequence has enough work
+  pub none-enough : (x ≡ noTime) ↔ ((w : List ℕ) → Enough g b w → ⊥)
+  none-enough = (
+    (λ none w enough. omega (arith, none, shortest .bound w enough, enough .2)),
+    (λ none. ⊎-elim (λ r. absurd (none (r .0) (r .1))) (λ r. r .0) (shortest .reached)),
   )
 
 -- demand and a further amount f together are more than t exactly when f alone is, or the shortest interval for what f leaves of t and one more is at most t

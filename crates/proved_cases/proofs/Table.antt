@@ -1,20 +1,17 @@
 -- Every case of the table holds: one test is computed for all of them, and one law says what that means for each.
-use Prim.Native.Nat.{ℕ, zero, suc}
+use Prim.Native.Nat.{ℕ, zero, suc, _+_}
 use native.Mathlib.Omega.{arith}
 use mathlib.Core.Path.{_≡_, refl, sym, ap, _∙_, subst}
-use mathlib.Core.Bool.{Bool, true, false, not, _&&_}
+use mathlib.Core.Bool.{Bool, true, false, _&&_}
 use mathlib.Core.List.{List, [], _∷_}
-use lib.Dec.{T, ltb, eqb, eqb→eq, ltb→lt}
+use lib.Dec.{T, leb, ltb, eqb, leb→le, eqb→eq, ltb→lt}
 use lib.IntN.{ℤ, pos, negsuc}
-use lib.ListN.{length}
-use borrow.Author.Tests.{le-ltb}
 use Rattle.sets.specs.Sets.{below, nextIn}
 use Rattle.meaning.specs.Graph.{Sound}
-use Rattle.meaning.specs.Demand.{noTime, IsDemand, IsWitness, IsShortest}
+use Rattle.meaning.specs.Demand.{longestTime, noTime, IsDemand, IsWitness, IsShortest}
 use Rattle.meaning.specs.Fixed.{fixedOf, fixedSum}
 use Rattle.meaning.specs.Verdict.{IsMargin}
 use Rattle.meaning.specs.Computed.{stepAt, bestWithin, best, leastAt, leastWithin, least, demandOf, shortestOf, restWithin, witnessOf, marginOf}
-use Rattle.meaning.proofs.Unique.{shortest-unique}
 use Rattle.meaning.proofs.Existence.{demand-of, shortest-of, witness-of, margin-of}
 use Rattle.fields.specs.Deciding.{pick, anyFrom, firstBroken}
 use Rattle.fields.specs.Fields.{lineOf, fields}
@@ -31,11 +28,9 @@ use Rattle.sheet.specs.declared.Answer.the-variants.{Accepted, Refused}
 use Rattle.sheet.proofs.Accepted.{accepted-proper}
 use Rattle.sheet.proofs.ProperGraph.{proper-sound}
 use Rattle.desk.specs.Answers.{shortestNumbers}
-use Rattle.beginning.specs.Beginning.{badAmount, graph, tasks, lines}
-use Rattle.desk.specs.Calls.{ShortestRefuses, ShortestAnswers, ShortestCall}
+use Rattle.beginning.specs.Beginning.{graph, tasks}
 use Rattle.desk.specs.declared.ShortestAnswer.{ShortestAnswer}
-use Rattle.beginning.proofs.Beginnings.{comes-to-answer}
-use Rattle.desk.proofs.Agreement.{told-refused}
+use Rattle.desk.proofs.Agreement.{calls-agree}
 use Rattle.proved_cases.specs.Cases.{Case, demand, witness, shortest, refused, margin, Accepts, Holds, All, cases}
 
 -- ---- the test
@@ -68,7 +63,7 @@ abbrev right : Case → Bool
 right (demand bytes t d) = accepts bytes && eqb (demandOf (graph bytes) t) d
 right (witness bytes t d rows) = accepts bytes && (eqb (demandOf (graph bytes) t) d && sameRows (witnessOf (graph bytes) t) rows)
 right (shortest bytes b time) = accepts bytes && eqb (shortestOf (graph bytes) b) time
-right (refused bytes b number) = accepts bytes && (eqb number 14 && (not (badAmount b) && eqb (shortestOf (graph bytes) b) noTime))
+right (refused bytes b number) = accepts bytes && (eqb number 14 && ((leb 1 b && leb b (longestTime + 1)) && eqb (shortestOf (graph bytes) b) noTime))
 right (margin bytes t m) = accepts bytes && sameSigned (marginOf (graph bytes) (tasks bytes) t) m
 
 abbrev every : List Case → Bool
@@ -80,10 +75,6 @@ every (c ∷ table) = right c && every table
 both : (a b : Bool) → T (a && b) → T a × T b
 both true b t = (tt, t)
 both false b t = absurd t
-
-is-false : (b : Bool) → T (not b) → b ≡ false
-is-false true t = absurd t
-is-false false t = refl
 
 same-rows : (w v : List ℕ) → T (sameRows w v) → w ≡ v
 same-rows [] [] t = refl
@@ -120,15 +111,7 @@ module _ (bytes : List ℕ) (t : T (accepts bytes)) where
       proper-sound bytes (judged bytes .sheet)
       (accepted-proper bytes (all-bytes bytes (both (isAccepted (judged bytes .answer)) (allBytes bytes) t .1)) accepted)
 
--- where no sequence reaches the amount, an answer is 14
-refused-by-14 : (bytes : List ℕ) (b : ℕ) (answer : ShortestAnswer) (number : ℕ) → number ≡ 14 → IsShortest (graph bytes) b noTime
-    → (cells cells′ : List ℕ) → ShortestAnswers bytes b cells answer cells′ → shortestNumbers answer .number ≡ number
-refused-by-14 bytes b answer number is-14 none cells cells′ (filled, (time, least, gives)) =
-    let no-time : time ≡ noTime = shortest-unique (graph bytes) b time noTime least none in
-    ap (λ (a : ShortestAnswer). shortestNumbers a .number) (told-refused answer time no-time gives) ∙ sym is-14
-
 law : (c : Case) → T (right c) → Holds c
-unfolding ShortestCall
 law (demand bytes t d) h =
     let parts = both (accepts bytes) _ h in (
       accepted bytes (parts .0),
@@ -149,14 +132,15 @@ law (shortest bytes b time) h =
 law (refused bytes b number) h =
     let parts = both (accepts bytes) _ h in
     let values = both (eqb number 14) _ (parts .1) in
-    let asked = both (not (badAmount b)) _ (values .1) in
+    let asked = both (leb 1 b && leb b (longestTime + 1)) _ (values .1) in
+    let range = both (leb 1 b) _ (asked .0) in
     let none : IsShortest (graph bytes) b noTime = subst (IsShortest (graph bytes) b) (eqb→eq _ noTime (asked .1)) (shortest-of (graph bytes) (sound bytes (parts .0)) b) in (
       accepted bytes (parts .0),
-      λ cells cells′ answer enough call.
-          refused-by-14 bytes b answer number (eqb→eq number 14 (values .0)) none cells cells′
-          (comes-to-answer (judged bytes .answer) (badAmount b) (ltb (length cells) (lines bytes b))
-          (ShortestRefuses cells answer cells′) (ShortestAnswers bytes b cells answer cells′)
-          (accepted bytes (parts .0)) (is-false (badAmount b) (asked .0)) (le-ltb (length cells) (lines bytes b) enough) call),
+      λ answer call.
+          ap (λ (a : ShortestAnswer). shortestNumbers a .number)
+          (calls-agree bytes (accepted bytes (parts .0)) .no-interval b answer (leb→le 1 b (range .0)) (leb→le b _ (range .1)) call .1
+          (λ w enough. omega (arith, none .bound w enough, enough .2)))
+          ∙ sym (eqb→eq number 14 (values .0)),
     )
 law (margin bytes t m) h =
     let parts = both (accepts bytes) _ h in (

@@ -1,16 +1,16 @@
 -- The table of cases, and what it says of each: the sheet is accepted and the value is the one that the definitions give.
-use Prim.Native.Nat.{ℕ, _≤_}
+use Prim.Native.Nat.{ℕ}
 use mathlib.Core.Path.{_≡_}
 use mathlib.Core.List.{List, [], _∷_}
 use lib.IntN.{ℤ, pos, negsuc}
-use lib.ListN.{length}
 use Rattle.meaning.specs.Demand.{IsDemand, IsWitness, IsShortest}
 use Rattle.meaning.specs.Verdict.{IsMargin}
 use Rattle.sheet.specs.Judging.{judged}
 use Rattle.sheet.specs.declared.Answer.the-variants.{Accepted}
 use Rattle.desk.specs.Answers.{shortestNumbers}
-use Rattle.beginning.specs.Beginning.{graph, tasks, lines}
+use Rattle.beginning.specs.Beginning.{graph, tasks}
 use Rattle.desk.specs.Calls.{ShortestCall}
+use Rattle.desk.specs.Agreement.{WithRoom}
 use Rattle.desk.specs.declared.ShortestAnswer.{ShortestAnswer}
 use Rattle.proved_cases.specs.Sheets.{sheetA, sheetAWithTask, sheetB}
 
@@ -32,8 +32,7 @@ Holds (witness bytes t d rows) = Accepts bytes × IsDemand (graph bytes) t d × 
 Holds (shortest bytes b time) = Accepts bytes × IsShortest (graph bytes) b time
 Holds (refused bytes b number) =
     Accepts bytes
-    × ((cells cells′ : List ℕ) (answer : ShortestAnswer) → lines bytes b ≤ length cells → ShortestCall bytes b cells answer cells′
-    → shortestNumbers answer .number ≡ number)
+    × ((answer : ShortestAnswer) → WithRoom bytes b (ShortestCall bytes b) answer → shortestNumbers answer .number ≡ number)
 Holds (margin bytes t m) = Accepts bytes × IsMargin (graph bytes) (tasks bytes) t m
 
 -- every case of a table holds

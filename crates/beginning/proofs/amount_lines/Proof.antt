@@ -6,10 +6,10 @@ use Rattle.beginning.proofs.amount_lines.Statement.{statement}
 use Rattle.beginning.proofs.amount_lines.Tie as tie
 
 returns : tie.Need-returns
-returns c = (amount-beyond _ (c .if1 .taken), omega arith)
+returns c = (amount-beyond (c .before .before .args .amount) (omega (arith, c .if1 .taken)), omega arith)
 
 returns-2 : tie.Need-returns-2
-returns-2 c = (amount-within _ (c .if1 .left), omega (arith, c .if1 .left))
+returns-2 c = (amount-within (c .before .before .args .amount) (omega (arith, c .if1 .left)), omega (arith, c .if1 .left))
 
 pub amount-lines-spec : {M : Type 1} → statement M
 amount-lines-spec =

@@ -1,8 +1,8 @@
 -- `begin` meets its contract: the judge first, then the range, then the room.
-use Prim.Native.Nat.{_*_, _≤_, _<_}
+use Prim.Native.Nat.{_≤_, _<_}
 use Rattle.beginning.proofs.Beginnings.{begin-refused, begin-beyond, begin-short, begin-goes-on}
 use Rattle.beginning.proofs.begin.Statement.{statement}
-use Rattle.beginning.specs.Beginning.{lines}
+use Rattle.beginning.specs.Beginning.{rows, roomFor}
 use Rattle.sheet.proofs.Accepted.{accepted-proper}
 use Rattle.sheet.specs.Judging.{judged}
 use Rattle.sheet.specs.declared.Answer.the-variants.{Accepted}
@@ -25,6 +25,17 @@ rows-few c =
     let proper = accepted-proper (now (c .before .before .before .before .before .before .args .bytes)) (λ i. omega (arith, c .before .before .before .before .before .shared-slice-known .given i)) (accepted c) in
     subst (λ (j : Judged). j .sheet .tally .rows ≤ 32) (sym (c .before .before .before .before .judge .ensures)) (proper .rows-most)
 
+-- the judge's rows are those that the room is held against
+same-rows : (c : tie.After-enum-told2) → rows (now (c .before .before .before .before .before .before .args .bytes)) ≡ c .before .before .before .before .judge .result .sheet .tally .rows
+same-rows c = sym (ap (λ (j : Judged). j .sheet .tally .rows) (c .before .before .before .before .judge .ensures))
+
+returns-4 : tie.Need-returns-4
+returns-4 c =
+    let s = c .before .before .before .before .before .before .before .before .before in
+    let enough : roomFor (now (s .args .bytes)) (s .args .lines) ≤ s .args .room = rw (same-rows (c .before .before .before)) (omega (arith, c .if2 .left)) in
+    begin-goes-on _ _ _ _ _ (accepted (c .before .before .before)) (ne-eqb _ _ (c .before .before .if1 .left)) enough
+    (c .before .before .before .before .before .before .before .judge .ensures)
+
 returns : tie.Need-returns
 returns c = begin-beyond _ _ _ _ _ (accepted (c .before .before)) (eq-eqb _ _ (c .before .if1 .taken)) (c .refused .ensures)
 
@@ -35,20 +46,14 @@ mul-if2 c =
 
 returns-2 : tie.Need-returns-2
 returns-2 c =
-    begin-short _ _ _ _ _ (accepted (c .before .before .before .before)) (ne-eqb _ _ (c .before .before .before .if1 .left))
-    (subst (λ (j : Judged). c .before .before .before .before .before .before .before .before .before .before .args .room < j .sheet .tally .rows * c .before .before .before .before .before .before .before .before .before .before .args .lines) (c .before .before .before .before .before .before .before .before .judge .ensures) (c .before .if2 .taken))
-    (c .refused2 .ensures)
+    let s = c .before .before .before .before .before .before .before .before .before .before in
+    let short : s .args .room < roomFor (now (s .args .bytes)) (s .args .lines) = rw (same-rows (c .before .before .before .before)) (omega (arith, c .before .if2 .taken)) in
+    begin-short _ _ _ _ _ (accepted (c .before .before .before .before)) (ne-eqb _ _ (c .before .before .before .if1 .left)) short (c .refused2 .ensures)
 
 returns-3 : tie.Need-returns-3
 returns-3 c =
     let e = c .before .before .before .before .judge .ensures in
     begin-refused _ _ _ _ _ _ _ (sym (ap (λ (j : Judged). j .answer) e) ∙ c .enum-told .given .1) (c .enum-told .given .1)
-
-returns-4 : tie.Need-returns-4
-returns-4 c =
-    begin-goes-on _ _ _ _ _ (accepted (c .before .before .before)) (ne-eqb _ _ (c .before .before .if1 .left))
-    (subst (λ (j : Judged). j .sheet .tally .rows * c .before .before .before .before .before .before .before .before .before .args .lines ≤ c .before .before .before .before .before .before .before .before .before .args .room) (c .before .before .before .before .before .before .before .judge .ensures) (c .if2 .left))
-    (c .before .before .before .before .before .before .before .judge .ensures)
 
 pub begin-spec : {M : Type 1} → statement M
 begin-spec =

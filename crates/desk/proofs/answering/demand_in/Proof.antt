@@ -1,14 +1,16 @@
 -- `demand_in` meets its contract: what it reads off the filled lines is the demand and its witness.
-use Prim.Native.Nat.{ℕ, _+_, _≤_, _<_, _*_}
+use Prim.Native.Nat.{_+_, _≤_, _*_}
 use Rattle.tables.specs.Lines.{HasLines}
 use Rattle.desk.proofs.Telling.{room-told, lines-told, demand-too-long, demand-written}
 use Rattle.desk.proofs.answering.demand_in.Statement.{statement}
 use Rattle.sheet.specs.Meaning.{graphOf}
 use Rattle.meaning.specs.Cells.{ByInterval}
+use Rattle.meaning.specs.Computed.{witnessOf}
 use borrow.Author.Needs.{needs}
 use denote.Ref.{now}
 use lib.ListN.{length}
-use mathlib.Core.Path.{subst}
+use mathlib.Core.Path.{_≡_, sym}
+use native.Mathlib.Omega.{arith}
 use Rattle.desk.proofs.answering.demand_in.Tie as tie
 
 -- there is room for the lines of the sheet
@@ -34,16 +36,29 @@ demand-of-requires c κs = table (c .before .before .before .before) .room
 witness-count-requires : tie.Need-witness-count-requires
 witness-count-requires c κs = (c .before .before .before .before .before .before .before .before .before .before .before .pre .0, (c .before .before .before .before .before .before .before .before .before .before .before .pre .1 .1 .0, table (c .before .before .before .before .before .before)))
 
+-- where the witness is counted, its count is right
+counted : (c : tie.After-witness-count) →
+    let a = c .before .before .before .before .before .before .before .before .before .before .before .before .args in
+    length (witnessOf (graphOf (now (a .bytes)) (a .sheet)) (a .t)) ≡ c .witness-count .result
+counted c = sym (c .witness-count .ensures)
+
+-- where it is not longer than the area, the witness fits
+fits : (c : tie.Else1) →
+    let a = c .before .before .before .before .before .before .before .before .before .before .before .before .before .args in
+    length (witnessOf (graphOf (now (a .bytes)) (a .sheet)) (a .t)) ≤ length (now (a .area))
+fits c = rw (counted (c .before)) (omega (arith, c .if1 .left))
+
 returns : tie.Need-returns
 returns c =
     let s = c .before .before .before .before .before .before .before .before .before .before .before .before .before in
     demand-too-long _ _ (s .pre .1 .0) (s .pre .0) _ _ _ (room s) (c .before .before .before .before .before .before .before .before .fill-by-interval .ensures)
-    (c .before .before .before .demand-of .result) (now (s .args .area)) (c .before .before .before .demand-of .ensures) (subst (λ (x : ℕ). length (now (s .args .area)) < x) (c .before .witness-count .ensures) (c .if1 .taken))
+    (c .before .before .before .demand-of .result) (now (s .args .area)) (c .before .before .before .demand-of .ensures)
+    (rw (counted (c .before)) (omega (arith, c .if1 .taken)))
 
 write-witness-requires : tie.Need-write-witness-requires
 write-witness-requires c κs =
     let s = c .before .before .before .before .before .before .before .before .before .before .before .before .before .before .before in
-    (s .pre .0, (s .pre .1 .1 .0, (table (c .before .before .before .before .before .before .before .before .before .before), subst (λ (x : ℕ). x ≤ length (now (s .args .area))) (c .before .before .before .witness-count .ensures) (c .before .before .if1 .left))))
+    (s .pre .0, (s .pre .1 .1 .0, (table (c .before .before .before .before .before .before .before .before .before .before), fits (c .before .before))))
 
 returns-2 : tie.Need-returns-2
 returns-2 c =
@@ -51,7 +66,7 @@ returns-2 c =
     let written = c .before .before .write-witness .ensures in
     demand-written _ _ (s .pre .1 .0) (s .pre .0) _ _ _ (room s) (c .before .before .before .before .before .before .before .before .before .before .before .before .before .fill-by-interval .ensures)
     _ _ _ _ (c .before .before .before .before .before .before .before .before .demand-of .ensures) (c .before .before .before .before .before .before .witness-count .ensures)
-    (subst (λ (x : ℕ). x ≤ length (now (s .args .area))) (c .before .before .before .before .before .before .witness-count .ensures) (c .before .before .before .before .before .if1 .left)) (written .is)
+    (fits (c .before .before .before .before .before)) (written .is)
 
 pub demand-in-spec : {M : Type 1} → statement M
 demand-in-spec =

@@ -9,8 +9,8 @@ use Rattle.meaning.specs.Cells.{ByInterval}
 use borrow.Author.Needs.{needs}
 use denote.Ref.{now}
 use lib.ListN.{length}
-use lib.IntN.{ℤ}
-use mathlib.Core.Path.{_∙_, sym, ap, subst}
+use lib.IntN.{ℤ, pos, _-ℤ_}
+use mathlib.Core.Path.{_≡_, _∙_, sym, ap, subst}
 use mir.Syntax.{w64}
 use mir.Val.{toZ, ofZ}
 use native.Mathlib.Omega.{arith}
@@ -49,15 +49,16 @@ add-less : tie.Need-add-less
 add-less c = omega (arith, sum-fits c)
 
 less-requires : tie.Need-less-requires
-less-requires c κs = (omega arith, omega (arith, sum-fits c))
+less-requires c κs = (omega (arith, sum-fits c), omega (arith, sum-fits c))
 
 returns : tie.Need-returns
 returns c =
     let s = c .before .before .before .before .before .before .before .before .before .before .before in
     let small : s .args .t < 2 ^ 63 = omega arith in
     let sum : c .before .before .demand-of .result + c .before .fixed-sum .result < 2 ^ 63 = omega (arith, sum-fits (c .before)) in
+    let left : c .less .result ≡ pos (s .args .t) -ℤ pos (c .before .before .demand-of .result + c .before .fixed-sum .result) = c .less .ensures in
     margin-told _ _ (s .pre .1 .0) (s .pre .0) _ _ _ (room s) (c .before .before .before .before .before .before .before .fill-by-interval .ensures)
-    _ _ _ (c .before .before .demand-of .ensures) (c .before .fixed-sum .ensures) (ap (λ (z : ℤ). toZ w64 (ofZ w64 z)) (c .less .ensures) ∙ difference-kept _ _ small sum)
+    _ _ _ (c .before .before .demand-of .ensures) (c .before .fixed-sum .ensures) (ap (λ (z : ℤ). toZ w64 (ofZ w64 z)) left ∙ difference-kept _ _ small sum)
 
 pub margin-in-spec : {M : Type 1} → statement M
 margin-in-spec =

@@ -1,11 +1,11 @@
 -- `shortest_in` meets its contract: what it reads off the last filled line is the shortest interval, and no time is 14.
-use Prim.Native.Nat.{ℕ, _*_, _≤_}
-use Rattle.desk.proofs.Telling.{room-told, shortest-answers, gives-none, gives-time}
+use Prim.Native.Nat.{_*_, _≤_}
+use Rattle.desk.proofs.Telling.{room-for-fewer, room-told, shortest-answers, gives-none, gives-time}
 use Rattle.desk.proofs.answering.shortest_in.Statement.{statement}
 use borrow.Author.Needs.{needs}
 use denote.Ref.{now}
 use lib.ListN.{length}
-use mathlib.Core.Path.{sym, subst}
+use native.Mathlib.Omega.{arith}
 use Rattle.desk.proofs.answering.shortest_in.Tie as tie
 
 -- there is room for the lines of the sheet
@@ -20,9 +20,8 @@ fill-by-amount-requires c κs =
 shortest-of-requires : tie.Need-shortest-of-requires
 shortest-of-requires c κs =
     let s = c .before .before .before .before .before .before .before .before in (
-      s .pre .1 .1 .0,
-      subst (λ (x : ℕ). s .args .sheet .tally .rows * s .args .amount ≤ x) (sym (c .before .before .before .before .fill-by-amount .ensures .same-length))
-          (room s),
+      omega (arith, s .pre .1 .1 .0),
+      rw (c .before .before .before .before .fill-by-amount .ensures .same-length) (room-for-fewer _ (s .args .amount) _ _ (omega (arith, s .pre .1 .1 .0)) (room s)),
     )
 
 returns : tie.Need-returns

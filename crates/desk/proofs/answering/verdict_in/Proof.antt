@@ -1,11 +1,12 @@
 -- `verdict_in` meets its contract: all lines are filled, and the sweep over them gives the verdict.
 use Prim.Native.Nat.{ℕ, _+_, _*_, _≤_}
-use Rattle.desk.proofs.Telling.{room-told, verdict-told}
+use Rattle.desk.proofs.Telling.{room-for-fewer, room-told, verdict-told}
 use Rattle.desk.proofs.answering.verdict_in.Statement.{statement}
 use borrow.Author.Needs.{needs}
 use denote.Ref.{now}
 use lib.ListN.{length}
 use mathlib.Core.Path.{sym, subst}
+use native.Mathlib.Omega.{arith}
 use Rattle.desk.proofs.answering.verdict_in.Tie as tie
 
 -- there is room for the lines of the sheet
@@ -15,7 +16,7 @@ room s = room-told _ _ (s .pre .1 .0) (s .pre .0) (s .args .horizon + 1) (now (s
 fill-requires : tie.Need-fill-requires
 fill-requires c κs =
     let s = c .before .before .before in
-    (s .pre .0, (s .pre .1 .1 .0, room s))
+    (s .pre .0, (omega arith, room-for-fewer _ (s .args .horizon + 1) _ _ (omega arith) (room s)))
 
 sweep-requires : tie.Need-sweep-requires
 sweep-requires c κs =
