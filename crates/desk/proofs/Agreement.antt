@@ -4,25 +4,24 @@ use native.Mathlib.Omega.{arith}
 use mathlib.Core.Path.{_≡_, refl, sym, ap, _∙_, subst}
 use mathlib.Core.Logic.{inl, inr, _↔_, Iff·trans}
 use mathlib.Core.Bool.{Bool, true, false}
-use mathlib.Core.List.{List, _++_}
+use mathlib.Core.List.{List, [], _∷_, _++_}
 use lib.Dec.{ltb, eqb}
 use lib.ListN.{length, drop}
 use borrow.Author.Tests.{le-ltb, eqb-true, eqb-false}
 use Rattle.meaning.specs.Demand.{longestTime, noTime, IsDemand, IsShortest}
-use Rattle.meaning.specs.Verdict.{Verdict, IsVerdict}
 use Rattle.meaning.proofs.Agreement.{agree, none-enough}
 use Rattle.meaning.proofs.Verdicts.{verdict-unique}
-use Rattle.fields.specs.Deciding.{pick}
+use Rattle.fields.specs.Deciding.{Rule, _when_, pick}
 use Rattle.sheet.specs.Judging.{judged}
 use Rattle.sheet.specs.declared.Answer.the-variants.{Accepted}
-use Rattle.beginning.specs.Beginning.{graph, tasks, FilledByInterval, FilledByAmount, intervalRules, amountRules}
-use Rattle.desk.specs.Calls.{DemandRefuses, DemandAnswers, DemandCall, ShortestGives, ShortestAnswers, ShortestCall, VerdictAnswers, VerdictCall, verdictAnswer}
+use Rattle.beginning.specs.Beginning.{graph, tasks, roomFor, FilledByInterval, FilledByAmount, intervalRules, amountRules, Begins}
+use Rattle.desk.specs.Calls.{DemandRefuses, DemandAnswers, DemandCall, ShortestGives, ShortestAnswers, ShortestCall, VerdictRefuses, VerdictAnswers, VerdictCall, VerdictByIntervalCall, VerdictByAmountCall, verdictAnswer}
 use Rattle.desk.specs.Agreement.{WithRoom, DemandEitherWay, TellsBy, CallsAgree}
 use Rattle.desk.specs.declared.DemandAnswer.the-variants as demand-case
 use Rattle.desk.specs.declared.ShortestAnswer.{ShortestAnswer}
 use Rattle.desk.specs.declared.ShortestAnswer.the-variants.{Found, Refused}
 use Rattle.desk.specs.declared.VerdictAnswer.{VerdictAnswer}
-use Rattle.beginning.proofs.Beginnings.{came-to-answer, comes-to-answer, amount-in-range}
+use Rattle.beginning.proofs.Beginnings.{begins-alike, came-to-answer, comes-to-answer, amount-in-range}
 
 pub found-not-refused : (amount count number place : ℕ) → demand-case.Found amount count ≡ demand-case.Refused number place → ⊥
 found-not-refused amount count number place e = let z : _≡_ {A = ℕ} 0 1 = cc in omega arith
@@ -69,6 +68,25 @@ module _ (answer : ShortestAnswer) (time : ℕ) where
   told : ShortestGives answer time → ((answer ≡ Refused 14 0) ↔ (time ≡ noTime)) × ((t : ℕ) → t ≤ longestTime → TellsBy t answer ↔ (time ≤ t))
   told = gives-case (eqb time noTime) refl
 
+-- both verdicts are the same for any bytes and any horizon, refusals too, where each is lent cells enough
+module _ (bytes : List ℕ) (horizon : ℕ) (cells cells′ room room′ : List ℕ) (x y : VerdictAnswer) where
+  same-verdict : VerdictAnswers FilledByInterval bytes horizon cells x cells′ → VerdictAnswers FilledByAmount bytes horizon room y room′ → x ≡ y
+  same-verdict (filled₁, (v₁, is₁, gives₁)) (filled₂, (v₂, is₂, gives₂)) =
+      gives₁ ∙ ap verdictAnswer (verdict-unique (graph bytes) (tasks bytes) horizon v₁ v₂ is₁ is₂) ∙ sym gives₂
+
+  pub verdicts-alike : roomFor bytes (horizon + 1) ≤ length cells → roomFor bytes (horizon + 1) ≤ length room
+      → VerdictByIntervalCall bytes horizon cells x cells′ → VerdictByAmountCall bytes horizon room y room′ → x ≡ y
+  unfolding VerdictCall
+  verdicts-alike enough enough′ first second =
+      begins-alike (judged bytes .answer) (intervalRules bytes horizon (length cells))
+      (VerdictRefuses cells x cells′) (VerdictRefuses room y room′) _ _ _
+      (λ number place (p : VerdictRefuses cells x cells′ number place) (q : VerdictRefuses room y room′ number place). p .0 ∙ sym (q .0))
+      same-verdict first
+      (subst (λ (rules : List Rule). Begins (judged bytes .answer) rules (VerdictRefuses room y room′) (VerdictAnswers FilledByAmount bytes horizon room y room′)) same-rules second)
+    where
+      same-rules : intervalRules bytes horizon (length room) ≡ intervalRules bytes horizon (length cells)
+      same-rules = ap (λ (tooFew : Bool). 11 when ltb longestTime horizon ∷ 12 when tooFew ∷ []) (le-ltb (length room) _ enough′ ∙ sym (le-ltb (length cells) _ enough))
+
 module _ (bytes : List ℕ) (accepted : judged bytes .answer ≡ Accepted) where
   shortest-answered : (b : ℕ) (answer : ShortestAnswer) → 1 ≤ b → b ≤ longestTime + 1 → WithRoom bytes b (ShortestCall bytes b) answer
       → (time : ℕ) × IsShortest (graph bytes) b time × ShortestGives answer time
@@ -76,13 +94,6 @@ module _ (bytes : List ℕ) (accepted : judged bytes .answer ≡ Accepted) where
   shortest-answered b answer some few (cells, cells′, enough, call) =
       comes-to-answer (judged bytes .answer) (amountRules bytes b (length cells)) _ (ShortestAnswers bytes b cells answer cells′)
       accepted (amount-in-range b some few, (le-ltb _ _ enough, tt)) call .1
-
-  verdict-answered : (FilledBy : List ℕ → ℕ → List ℕ → List ℕ → Type 0) (horizon : ℕ) (answer : VerdictAnswer) → horizon ≤ longestTime
-      → WithRoom bytes (horizon + 1) (VerdictCall FilledBy bytes horizon) answer → (v : Verdict) × IsVerdict (graph bytes) (tasks bytes) horizon v × (answer ≡ verdictAnswer v)
-  unfolding VerdictCall
-  verdict-answered FilledBy horizon answer few (cells, cells′, enough, call) =
-      comes-to-answer (judged bytes .answer) (intervalRules bytes horizon (length cells)) _ (VerdictAnswers FilledBy bytes horizon cells answer cells′)
-      accepted (le-ltb _ _ few, (le-ltb _ _ enough, tt)) call .1
 
   demand-is : (t d : ℕ) → DemandEitherWay bytes t d → IsDemand (graph bytes) t d
   demand-is t d (inl is) = is
@@ -100,7 +111,5 @@ module _ (bytes : List ℕ) (accepted : judged bytes .answer ≡ Accepted) where
         let refused : (answer ≡ Refused 14 0) ↔ (least .0 ≡ noTime) = told answer (least .0) (least .2) .0 in
         Iff·trans refused (none-enough (graph bytes) b (least .0) some (least .1));
     one-verdict = λ horizon x y few by-interval by-amount.
-        let v = verdict-answered FilledByInterval horizon x few by-interval in
-        let u = verdict-answered FilledByAmount horizon y few by-amount in
-        v .2 ∙ ap verdictAnswer (verdict-unique (graph bytes) (tasks bytes) horizon (v .0) (u .0) (v .1) (u .1)) ∙ sym (u .2);
+        verdicts-alike bytes horizon (by-interval .0) (by-interval .1) (by-amount .0) (by-amount .1) x y (by-interval .2) (by-amount .2) (by-interval .3) (by-amount .3);
   }
