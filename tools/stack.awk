@@ -23,7 +23,9 @@ function depth(name,    i, below, deepest, list, count) {
 
 /^[0-9a-f]+ <.*>:$/ { name = target($0); frame[name] = 0; calls[name] = ""; next }
 /\tpush / { frame[name] += 8 }
-/\tsub +\$0x[0-9a-f]+,%r11$/ { frame[name] += amount($0); looped = 1 }
+# A large frame is taken page by page, down to an end that is worked out in %r11; any other number there is none of the stack's.
+/\tsub +\$0x[0-9a-f]+,%r11$/ && before ~ /\tmov +%rsp,%r11$/ { frame[name] += amount($0); looped = 1 }
 /\tsub +\$0x[0-9a-f]+,%rsp$/ { if (looped) looped = 0; else frame[name] += amount($0) }
 /\tcall .*<.*::[^+]*>$/ { calls[name] = calls[name] "\n" target($0) }
+{ before = $0 }
 END { for (name in frame) if (name ~ /^marnipode_/) printf "%-32s %6d\n", name, depth(name) }
