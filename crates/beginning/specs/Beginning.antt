@@ -40,7 +40,7 @@ FilledByAmount bytes lines old new = Filled (rows bytes) (ByAmount (graph bytes)
 abbrev pub callRules : List ℕ → Bool → ℕ → ℕ → List Rule
 callRules bytes outOfRange lines room = 11 when outOfRange ∷ 12 when ltb room (roomFor bytes lines) ∷ []
 
--- of one with an interval or a horizon, which is at most the longest time and takes a line for each interval from 0 on
+-- the rules of a call with an interval or a horizon, which is at most the longest time and takes a line for each interval from 0 on
 abbrev pub intervalRules : List ℕ → ℕ → ℕ → List Rule
 intervalRules bytes t = callRules bytes (ltb longestTime t) (t + 1)
 

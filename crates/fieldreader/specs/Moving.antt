@@ -13,10 +13,10 @@ abbrev pub afterField : ℕ → Step → ℕ
 afterField at (Field kind start size next) = next
 afterField at (Refusal number place) = at
 
--- the step at a place: what stands there, and the place after it
+-- a reader after a step: it holds the same bytes, and has moved if a field stood at its place
+abbrev pub stepped : Reader → Reader
+stepped reader = record { bytes = reader .bytes; at = afterField (reader .at) (fieldAt (now (reader .bytes)) (reader .at)) }
+
+-- what the code has of a step: what stands at a place, and the place after it
 abbrev pub stepAt : List ℕ → ℕ → Taken
 stepAt bytes at = record { step = fieldAt bytes at; after = afterField at (fieldAt bytes at) }
-
--- a reader after a step: it holds the same bytes, and stands at the place after it
-abbrev pub stepped : Reader → Reader
-stepped reader = record { bytes = reader .bytes; at = stepAt (now (reader .bytes)) (reader .at) .after }
