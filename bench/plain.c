@@ -97,22 +97,61 @@ static void fill_by_interval(const byte_number *bytes, const struct sheet *sheet
     }
 }
 
+static cell_number largest(const cell_number *line, place_number n)
+{
+    cell_number most = 0;
+    for (place_number k = 0; k < n; k++)
+        if (most < line[k])
+            most = line[k];
+    return most;
+}
+
 signed_number plain_margin(const byte_number *bytes, place_number t, cell_number *cells)
 {
     struct sheet sheet;
     read_sheet(bytes, &sheet);
     fill_by_interval(bytes, &sheet, cells, t);
-    cell_number most = 0;
-    for (place_number k = 0; k < sheet.rows; k++)
-        if (most < cells[t * sheet.rows + k])
-            most = cells[t * sheet.rows + k];
-    signed_number left = (signed_number)t - most;
+    signed_number left = (signed_number)t - largest(&cells[t * sheet.rows], sheet.rows);
     for (place_number i = 0; i < sheet.tasks; i++) {
         const struct task *task = &sheet.task[i];
         if (task->deadline <= t)
             left -= (signed_number)task->length * (signed_number)(1 + (t - task->deadline) / task->period);
     }
     return left;
+}
+
+/* What falls due at t of the fixed tasks; a task whose job does so waits for its next one. */
+static place_number due_at(const struct sheet *sheet, place_number *dues, place_number t)
+{
+    place_number work = 0;
+    for (place_number i = 0; i < sheet->tasks; i++) {
+        if (dues[i] == t) {
+            work += sheet->task[i].length;
+            dues[i] = t + sheet->task[i].period;
+        }
+    }
+    return work;
+}
+
+place_number plain_tightest(const byte_number *bytes, place_number horizon, cell_number *cells)
+{
+    struct sheet sheet;
+    place_number dues[TASKS], fixed = 0, least = horizon + 1, at = 0;
+    read_sheet(bytes, &sheet);
+    fill_by_interval(bytes, &sheet, cells, horizon);
+    for (place_number i = 0; i < sheet.tasks; i++)
+        dues[i] = sheet.task[i].deadline;
+    for (place_number t = 1; t <= horizon; t++) {
+        fixed += due_at(&sheet, dues, t);
+        place_number used = largest(&cells[t * sheet.rows], sheet.rows) + fixed;
+        if (t < used)
+            return 0;
+        if (t - used < least) {
+            least = t - used;
+            at = t;
+        }
+    }
+    return at;
 }
 
 static cell_number soonest_via(const byte_number *bytes, const cell_number *cells, const struct row *row, place_number n, place_number line)

@@ -31,8 +31,8 @@ extern "C" {
 #endif
 
 /* The version of this header and its archive; as a number, 1.2.3 is 10203. CHANGELOG.md says what a new one changes. */
-#define MARNIPODE_VERSION "1.0.1"
-#define MARNIPODE_VERSION_NUMBER 10001
+#define MARNIPODE_VERSION "1.1.0"
+#define MARNIPODE_VERSION_NUMBER 10100
 
 /* The most modes, rows and fixed tasks of a sheet, and the most bytes of its label. */
 #define MARNIPODE_MOST_MODES 8
@@ -81,6 +81,14 @@ enum {
     MARNIPODE_TASK = 4,
     MARNIPODE_END = 5,
     MARNIPODE_SKIPPED = 128
+};
+
+/* Which part exceeds an interval: it asks for strictly more than the interval. Where each alone does, the engine task is named. */
+enum {
+    MARNIPODE_CAUSE_NONE = 0,    /* no interval is overrun, or the call is refused */
+    MARNIPODE_CAUSE_ENGINE = 1,  /* the engine task alone, whatever the fixed tasks ask for */
+    MARNIPODE_CAUSE_FIXED = 2,   /* the fixed tasks alone, and the engine task alone does not */
+    MARNIPODE_CAUSE_TOGETHER = 3 /* neither of them alone, only both together */
 };
 
 /* How many modes, rows and fixed tasks an accepted sheet has. */
@@ -137,6 +145,24 @@ typedef struct {
     uint64_t overrun;
 } marnipode_verdict_answer;
 
+/*
+ * Why a verdict fails, 0 where it holds: the first interval that is overrun; the cause; what the engine task asks for there; what
+ * each fixed task asks for there, in file order, 0 past the last; the excess, all that is asked for less the interval; and how many
+ * rows the witness has. Why it holds, 0 where it fails: the smallest margin, and the earliest interval that has it.
+ */
+typedef struct {
+    uint8_t number;
+    size_t place;
+    uint64_t overrun;
+    uint8_t cause;
+    uint32_t engine;
+    uint64_t demands[MARNIPODE_MOST_TASKS];
+    uint64_t excess;
+    size_t count;
+    uint64_t margin;
+    uint64_t interval;
+} marnipode_explain_answer;
+
 /* Judges a sheet: refusals 1 to 10. */
 marnipode_judge_answer marnipode_judge(const uint8_t *sheet, size_t size);
 
@@ -178,6 +204,19 @@ marnipode_verdict_answer marnipode_verdict_by_interval(const uint8_t *sheet, siz
                                                        size_t cell_count);
 marnipode_verdict_answer marnipode_verdict_by_amount(const uint8_t *sheet, size_t size, uint64_t horizon, uint32_t *cells,
                                                      size_t cell_count);
+
+/*
+ * Why the verdict from 1 up to a horizon fails or holds. Cells and refusals 1 to 12 are those of the verdict by interval.
+ *
+ *   - Where it fails, the rows of the witness of the engine's demand at the overrun go to the witness area, one to a byte; the
+ *     bytes after them stay as they were. Refusal 13 looks at this witness, not at the one at the horizon; an area of as many bytes
+ *     as the horizon has ticks cannot give it.
+ *   - Where it holds, the witness area stays as it was, and refusal 13 never comes. At interval 1 at most 1 is left, so the smallest
+ *     margin is 0 or 1, and its interval tells more than the number. Up to the horizon 0 there is no interval: then both are 0,
+ *     and only then is the interval 0.
+ */
+marnipode_explain_answer marnipode_explain(const uint8_t *sheet, size_t size, uint64_t horizon, uint32_t *cells, size_t cell_count,
+                                           uint8_t *witness, size_t witness_size);
 
 #ifdef __cplusplus
 }

@@ -29,7 +29,7 @@ static bool fills(unsigned number)
 /* The call that must fill the same cells. */
 static call twin_of(call asked)
 {
-    static const call twins[] = {MARGIN, VERDICT_BY_INTERVAL, MARGIN, VERDICT_BY_AMOUNT, SHORTEST};
+    static const call twins[] = {MARGIN, VERDICT_BY_INTERVAL, MARGIN, VERDICT_BY_AMOUNT, SHORTEST, VERDICT_BY_INTERVAL};
     return twins[asked];
 }
 

@@ -10,14 +10,14 @@ bool refusal_said(const line *said, size_t at, outcome *must)
     uint64_t number, place;
     if (!says(said, at, "refused") || !number_at(said, at + 1, &number) || !number_at(said, at + 2, &place))
         return false;
-    *must = (outcome){(unsigned)number, place, 0, 0};
+    *must = (outcome){.number = (unsigned)number, .place = place};
     return 0 < number && number <= UINT8_MAX && said->count == at + 3;
 }
 
 /* A word and a number, which may be all that follows. */
 static bool value_said(const line *said, const char *before, outcome *must)
 {
-    *must = (outcome){0, 0, 0, 0};
+    *must = (outcome){0};
     return says(said, 2, before) && signed_number_at(said, 3, &must->value);
 }
 
@@ -55,15 +55,14 @@ static void hold_call(trial *now, const line *said, call asked, uint64_t number,
     hold_answer(now, asked, try_on_lent(now, asked, number), must, expected_by(said));
 }
 
-/* The rows behind `by`; none where the line ends before it. */
-static bool rows_said(const line *said, uint8_t *rows, size_t *count)
+bool rows_said(const line *said, size_t at, uint8_t *rows, size_t *count)
 {
     *count = 0;
-    if (said->count == 4)
+    if (said->count == at)
         return true;
-    if (!says(said, 4, "by") || said->count == 5 || MOST_WITNESS < said->count - 5)
+    if (!says(said, at, "by") || said->count == at + 1 || MOST_WITNESS < said->count - at - 1)
         return false;
-    for (size_t i = 5; i < said->count; i++) {
+    for (size_t i = at + 1; i < said->count; i++) {
         uint64_t row;
         if (!number_at(said, i, &row) || UINT8_MAX < row)
             return false;
@@ -72,11 +71,18 @@ static bool rows_said(const line *said, uint8_t *rows, size_t *count)
     return true;
 }
 
+void hold_witnessed(trial *now, const line *said, call asked, uint64_t number, outcome must, const uint8_t *rows)
+{
+    outcome got = try_on_lent(now, asked, number);
+    if (!is_same(got, must) || memcmp(now->witness.start, rows, must.count) != 0)
+        tell_answer(now, asked, got, expected_by(said));
+}
+
 static bool demand_said(const line *said, outcome *must, uint8_t *rows)
 {
     if (refusal_said(said, 2, must))
         return true;
-    return value_said(said, "is", must) && 0 <= must->value && rows_said(said, rows, &must->count);
+    return value_said(said, "is", must) && 0 <= must->value && rows_said(said, 4, rows, &must->count);
 }
 
 void read_demand(trial *now, const line *said)
@@ -89,9 +95,7 @@ void read_demand(trial *now, const line *said)
         return;
     }
     compare(now);
-    outcome got = try_on_lent(now, DEMAND, interval);
-    if (!is_same(got, must) || memcmp(now->witness.start, rows, must.count) != 0)
-        tell_answer(now, DEMAND, got, expected_by(said));
+    hold_witnessed(now, said, DEMAND, interval, must, rows);
 }
 
 void read_margin(trial *now, const line *said)

@@ -24,6 +24,7 @@ static const struct {
     {"margin", read_margin, true},
     {"verdict", read_verdict, true},
     {"shortest", read_shortest, true},
+    {"why", read_why, true},
     {"cell", read_cell, true},
 };
 

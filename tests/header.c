@@ -119,6 +119,43 @@ static void compare_questions(uint32_t *cells)
     compare("a larger amount", shortest.number == MARNIPODE_REFUSED_QUESTION);
 }
 
+/* How many of an answer's demands are as given. */
+static size_t demands_of(const marnipode_explain_answer *answer, uint64_t given)
+{
+    size_t count = 0;
+    for (size_t i = 0; i < MARNIPODE_MOST_TASKS; i++)
+        count += answer->demands[i] == given;
+    return count;
+}
+
+/* The same row alone leaves nothing of any interval; beside fixed tasks it overruns interval 1. */
+static void compare_explanations(uint32_t *cells)
+{
+    const size_t count = (size_t)MARNIPODE_LONGEST_TIME + 1;
+    uint8_t row = 1;
+    write_outline(&(outline){1, 1, 1, 0, 1});
+    marnipode_explain_answer why = marnipode_explain(sheet, size, MARNIPODE_LONGEST_TIME, cells, count, NULL, 0);
+    compare("the longest horizon", why.number == 0 && why.overrun == 0 && why.cause == MARNIPODE_CAUSE_NONE);
+    compare("the earliest interval", why.margin == 0 && why.interval == 1);
+    why = marnipode_explain(sheet, size, 0, cells, 1, NULL, 0);
+    compare("a horizon without an interval", why.number == 0 && why.margin == 0 && why.interval == 0);
+    compare("a longer horizon", marnipode_explain(sheet, size, count, cells, count, NULL, 0).number == MARNIPODE_REFUSED_QUESTION);
+    compare("null cells of explain", marnipode_explain(sheet, size, 0, NULL, 0, NULL, 0).number == MARNIPODE_REFUSED_FEW_CELLS);
+
+    write_outline(&(outline){1, 1, 1, 1, 1});
+    why = marnipode_explain(sheet, size, 1, cells, 2, NULL, 0);
+    compare("a null witness area at an overrun", why.number == MARNIPODE_REFUSED_SHORT_WITNESS_AREA && why.overrun == 0);
+    why = marnipode_explain(sheet, size, 1, cells, 2, &row, 1);
+    compare("the cause together", why.number == 0 && why.overrun == 1 && why.cause == MARNIPODE_CAUSE_TOGETHER);
+    compare("the witness of an overrun", why.count == 1 && row == 0);
+    compare("the demand of the only task", why.demands[0] == 1 && demands_of(&why, 0) == MARNIPODE_MOST_TASKS - 1);
+
+    write_outline(&(outline){1, 1, 1, MARNIPODE_MOST_TASKS, 1});
+    why = marnipode_explain(sheet, size, 1, cells, 2, &row, 1);
+    compare("the most tasks", why.cause == MARNIPODE_CAUSE_FIXED && demands_of(&why, 1) == MARNIPODE_MOST_TASKS);
+    compare("the excess", why.engine == 1 && why.excess == MARNIPODE_MOST_TASKS);
+}
+
 /* No bytes at all are a sheet that is cut off. */
 static void compare_no_sheet(void)
 {
@@ -132,6 +169,7 @@ static void compare_no_sheet(void)
     compare("demand of a null sheet", marnipode_demand(NULL, 0, 1, NULL, 0, NULL, 0).number == MARNIPODE_REFUSED_CUT_OFF);
     compare("margin of a null sheet", marnipode_margin(NULL, 0, 1, NULL, 0).number == MARNIPODE_REFUSED_CUT_OFF);
     compare("shortest of a null sheet", marnipode_shortest(NULL, 0, 1, NULL, 0).number == MARNIPODE_REFUSED_CUT_OFF);
+    compare("explain of a null sheet", marnipode_explain(NULL, 0, 1, NULL, 0, NULL, 0).number == MARNIPODE_REFUSED_CUT_OFF);
     compare("a verdict of a null sheet",
             marnipode_verdict_by_interval(NULL, 0, 1, NULL, 0).number == MARNIPODE_REFUSED_CUT_OFF &&
                 marnipode_verdict_by_amount(NULL, 0, 1, NULL, 0).number == MARNIPODE_REFUSED_CUT_OFF);
@@ -142,6 +180,7 @@ int main(void)
     static uint32_t cells[MARNIPODE_LONGEST_TIME + 1];
     compare_limits();
     compare_questions(cells);
+    compare_explanations(cells);
     compare_no_sheet();
     print_score("header in all", 13, counted);
     return counted.wrong == 0 ? EXIT_SUCCESS : EXIT_FAILURE;

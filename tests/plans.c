@@ -7,8 +7,8 @@
 /* Choices for each digit. Of three rows all followers are one digit, a bit for each pair of rows. */
 enum { LENGTHS = 3, DEADLINES = 2, GAPS = 4, TASKS = MOST_TASKS + 1, SETS = 1 << (MOST_ROWS * MOST_ROWS) };
 
-/* The deadline of the second task is longer than its period. */
-const fixed_task fixed_tasks[MOST_TASKS] = {{1, 5, 4}, {2, 3, 5}};
+/* The deadline of the second task is longer than its period. The third takes all of interval 2, and the fourth is too much there. */
+const fixed_task fixed_tasks[MOST_TASKS] = {{1, 5, 4}, {2, 3, 5}, {2, 7, 2}, {1, 9, 2}};
 
 /* A boundary speed belongs to the slower mode. */
 static const family families[] = {
@@ -120,6 +120,8 @@ void print_bounds(const family *chosen)
     printf("every follower set, job lengths of a mode 1 to %d, deadlines 1 to %d\n", LENGTHS, DEADLINES);
     printf("gaps of one and two rows: the deadline, one more or two more\n");
     printf("gaps of three rows: 1 out of a row with deadline 1; 4, 3 and 2 to rows 0, 1 and 2 out of one with deadline 2\n");
-    printf("fixed tasks: none, the first or both of (%u, %u, %u) and (%u, %u, %u)\n", fixed_tasks[0].length, fixed_tasks[0].period,
-           fixed_tasks[0].deadline, fixed_tasks[1].length, fixed_tasks[1].period, fixed_tasks[1].deadline);
+    printf("fixed tasks: none, or the first ones of");
+    for (unsigned i = 0; i < MOST_TASKS; i++)
+        printf(" (%u, %u, %u)", fixed_tasks[i].length, fixed_tasks[i].period, fixed_tasks[i].deadline);
+    printf("\n");
 }

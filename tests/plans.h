@@ -5,14 +5,14 @@
 #include <stddef.h>
 #include <stdint.h>
 
-enum { MOST_ROWS = 3, MOST_TASKS = 2 };
+enum { MOST_ROWS = 3, MOST_TASKS = 4 };
 
-/* Room for a file: three rows and two fixed tasks take 97 bytes. */
+/* Room for a file: three rows and four fixed tasks take 115 bytes. */
 enum { MOST_PLAN_FILE = 128 };
 
 /*
  * Three modes, up to 1,000, 2,000 and 3,000 rpm, with the lengths of their jobs. Each row has a speed, and the mode that it is in by
- * that; a deadline; and a gap to each row, 0 where that row may not follow. Of the fixed tasks there are none, the first or both.
+ * that; a deadline; and a gap to each row, 0 where that row may not follow. Of the fixed tasks there are none or the first ones.
  */
 typedef struct {
     unsigned mode_lengths[MOST_ROWS];

@@ -20,6 +20,7 @@ typedef struct {
     uint64_t sheets;
     uint64_t sequences;
     uint64_t answers;
+    uint64_t causes[MARNIPODE_CAUSE_TOGETHER + 1];
     uint64_t wrong;
 } counts;
 
@@ -35,15 +36,19 @@ typedef struct {
     counts counted;
 } search;
 
-/* What the fixed tasks of a plan need up to an interval, as docs/FORMAT.md has it. */
+/* What a fixed task needs up to an interval, as docs/FORMAT.md has it. */
+static int64_t demand_of(const fixed_task *task, int64_t interval)
+{
+    int64_t later = interval - task->deadline;
+    return later < 0 ? 0 : task->length * (1 + later / task->period);
+}
+
+/* What the fixed tasks of a plan need. */
 static int64_t fixed_demand(const plan *made, int64_t interval)
 {
     int64_t needed = 0;
-    for (unsigned i = 0; i < made->tasks; i++) {
-        int64_t later = interval - fixed_tasks[i].deadline;
-        if (0 <= later)
-            needed += fixed_tasks[i].length * (1 + later / fixed_tasks[i].period);
-    }
+    for (unsigned i = 0; i < made->tasks; i++)
+        needed += demand_of(&fixed_tasks[i], interval);
     return needed;
 }
 
@@ -66,20 +71,61 @@ static int64_t overrun_by(const search *now, uint64_t horizon)
 static outcome shortest_for(const search *now, uint64_t amount)
 {
     uint32_t time = now->found.shortest[amount - 1];
-    return time == NEVER ? (outcome){14, 0, 0, 0} : (outcome){0, 0, time, 0};
+    return time == NEVER ? (outcome){.number = 14} : (outcome){.value = time};
+}
+
+/* The earliest interval from 1 to a horizon with the smallest margin, or 0. */
+static uint64_t tightest_by(const search *now, uint64_t horizon)
+{
+    uint64_t tightest = horizon == 0 ? 0 : 1;
+    for (uint64_t interval = 2; interval <= horizon; interval++)
+        if (margin_at(now, interval) < margin_at(now, tightest))
+            tightest = interval;
+    return tightest;
+}
+
+/* The cause where an interval is overrun. */
+static unsigned cause_at(const search *now, int64_t interval)
+{
+    if (interval < now->found.demand[interval])
+        return MARNIPODE_CAUSE_ENGINE;
+    return interval < fixed_demand(&now->made, interval) ? MARNIPODE_CAUSE_FIXED : MARNIPODE_CAUSE_TOGETHER;
+}
+
+static outcome fails_at(const search *now, int64_t interval)
+{
+    outcome must = {.value = interval, .count = now->found.witness_count[interval]};
+    must.why.cause = cause_at(now, interval);
+    must.why.engine = now->found.demand[interval];
+    for (unsigned i = 0; i < now->made.tasks; i++)
+        must.why.demands[i] = (uint64_t)demand_of(&fixed_tasks[i], interval);
+    must.why.excess = (uint64_t)-margin_at(now, (uint64_t)interval);
+    return must;
+}
+
+/* Up to the horizon 0 there is no interval, and nothing is left of it, so that both numbers are 0 there too. */
+static outcome explained_by(const search *now, uint64_t horizon)
+{
+    int64_t overrun = overrun_by(now, horizon);
+    if (overrun != 0)
+        return fails_at(now, overrun);
+    uint64_t tightest = tightest_by(now, horizon);
+    return (outcome){.why.margin = (uint64_t)margin_at(now, tightest), .why.interval = tightest};
 }
 
 static outcome must_answer(const search *now, call asked, uint64_t number)
 {
     switch (asked) {
     case DEMAND:
-        return (outcome){0, 0, now->found.demand[number], now->found.witness_count[number]};
+        return (outcome){.value = now->found.demand[number], .count = now->found.witness_count[number]};
     case MARGIN:
-        return (outcome){0, 0, margin_at(now, number), 0};
+        return (outcome){.value = margin_at(now, number)};
     case SHORTEST:
         return shortest_for(now, number);
+    case EXPLAIN:
+        return explained_by(now, number);
     default:
-        return (outcome){0, 0, overrun_by(now, number), 0};
+        return (outcome){.value = overrun_by(now, number)};
     }
 }
 
@@ -95,10 +141,16 @@ static bool tell_wrong(search *now, call asked, uint64_t number)
     return true;
 }
 
+/* The interval whose witness a call gives: explain's is that of the overrun, or of 0, which has no rows. */
+static uint64_t witnessed_by(const search *now, call asked, uint64_t number)
+{
+    return asked == EXPLAIN ? (uint64_t)overrun_by(now, number) : number;
+}
+
 static void tell_answer(search *now, call asked, uint64_t number, outcome got, outcome must)
 {
     char spelled[SPELLED], expected[SPELLED];
-    area rows = {.start = now->found.witness[number], .size = MOST_JOBS};
+    area rows = {.start = now->found.witness[witnessed_by(now, asked, number)], .size = MOST_JOBS};
     if (!tell_wrong(now, asked, number))
         return;
     spell(expected, asked, must, &rows);
@@ -135,6 +187,11 @@ static const char *witness_fault(const search *now, uint64_t interval)
     return NULL;
 }
 
+static bool gives_witness(call asked)
+{
+    return asked == DEMAND || asked == EXPLAIN;
+}
+
 /* What is wrong with lent memory after a call; null where nothing is. */
 static const char *memory_fault(const search *now, call asked, uint64_t number)
 {
@@ -144,17 +201,18 @@ static const char *memory_fault(const search *now, call asked, uint64_t number)
         return "left other cells than it must";
     if (guard_changed(&now->sheet) != NULL || memcmp(now->sheet.start, now->bytes, now->size) != 0)
         return "changed the sheet or what stands beside it";
-    return asked == DEMAND ? witness_fault(now, number) : NULL;
+    return gives_witness(asked) ? witness_fault(now, witnessed_by(now, asked, number)) : NULL;
 }
 
 static void compare_call(search *now, call asked, uint64_t number)
 {
     outcome must = must_answer(now, asked, number);
     lend(&now->cells, LENT_CELLS * CELL);
-    if (asked == DEMAND)
+    if (gives_witness(asked))
         lend(&now->witness, MOST_JOBS);
     outcome got = ask(asked, &now->sheet, number, &now->cells, &now->witness);
     now->counted.answers++;
+    now->counted.causes[must.why.cause] += asked == EXPLAIN;
     const char *fault = memory_fault(now, asked, number);
     if (!is_same(got, must))
         tell_answer(now, asked, number, got, must);
@@ -172,6 +230,7 @@ static void compare_plan(search *now)
         compare_call(now, DEMAND, interval);
         compare_call(now, MARGIN, interval);
         compare_call(now, VERDICT_BY_INTERVAL, interval);
+        compare_call(now, EXPLAIN, interval);
     }
     for (uint64_t amount = 1; amount <= LARGEST; amount++) {
         compare_call(now, SHORTEST, amount);
@@ -181,14 +240,17 @@ static void compare_plan(search *now)
     now->counted.sequences += now->found.sequences;
 }
 
-/* Each call has all lent cells compared, and demand, which is asked at every interval, the witness area too. */
+/* Each call has all lent cells compared; demand and explain, which are asked at every interval, the witness area too. */
 static void print_counts(const family *chosen, counts counted)
 {
     uint64_t intervals = counted.sheets * (HORIZON + 1);
     printf("%" PRIu64 " sheets, %" PRIu64 " intervals, %" PRIu64 " amounts, %" PRIu64 " sequences, ", counted.sheets, intervals,
            counted.sheets * LARGEST, counted.sequences);
     printf("%" PRIu64 " answers, %" PRIu64 " cells, %" PRIu64 " bytes\n", counted.answers, counted.answers * LENT_CELLS,
-           intervals * MOST_JOBS);
+           2 * intervals * MOST_JOBS);
+    printf("explained: %" PRIu64 " that hold; overrun by the engine task %" PRIu64 ", by fixed tasks %" PRIu64 ", together %" PRIu64 "\n",
+           counted.causes[MARNIPODE_CAUSE_NONE], counted.causes[MARNIPODE_CAUSE_ENGINE], counted.causes[MARNIPODE_CAUSE_FIXED],
+           counted.causes[MARNIPODE_CAUSE_TOGETHER]);
     printf("search %s in all: %" PRIu64 " compared, %" PRIu64 " wrong\n", chosen->name, counted.answers, counted.wrong);
 }
 
@@ -214,8 +276,8 @@ int main(int argc, char **argv)
     now.cells = make_area(LENT_CELLS * CELL, 1);
     now.witness = make_area(MOST_JOBS, 2);
     print_bounds(chosen);
-    printf("intervals and horizons 0 to %d, amounts 1 to %d; each call is lent %d cells, demand %d bytes\n", HORIZON, LARGEST,
-           LENT_CELLS, MOST_JOBS);
+    printf("intervals and horizons 0 to %d, amounts 1 to %d; each call is lent %d cells, demand and explain %d bytes\n", HORIZON,
+           LARGEST, LENT_CELLS, MOST_JOBS);
     compare_family(&now, chosen);
     print_counts(chosen, now.counted);
     return now.counted.wrong == 0 ? EXIT_SUCCESS : EXIT_FAILURE;

@@ -28,10 +28,19 @@ void read_verdict(trial *now, const line *said);
 void read_shortest(trial *now, const line *said);
 void read_cell(trial *now, const line *said);
 
+/* why_words.c: why the verdict fails or holds. */
+void read_why(trial *now, const line *said);
+
 /* Whether the line ends, from a word on, with `refused NUMBER PLACE`. */
 bool refusal_said(const line *said, size_t at, outcome *must);
 
+/* Whether the line ends, from a word on, with `by ROW ROW ..`, or there already: then the witness has no rows. */
+bool rows_said(const line *said, size_t at, uint8_t *rows, size_t *count);
+
 /* Tells of an answer that is not the one that the line says from a word on. */
 void hold_answer(trial *now, call asked, outcome got, outcome must, word expected);
+
+/* Makes a call that gives a witness on what the text lends, and holds its answer and the rows to what the line says. */
+void hold_witnessed(trial *now, const line *said, call asked, uint64_t number, outcome must, const uint8_t *rows);
 
 #endif

@@ -1,4 +1,4 @@
-// Says whether a sheet fits up to a horizon, and if not, by how much its first overrun interval is exceeded: fits FILE HORIZON.
+// Says whether a sheet fits up to a horizon, and if not, by how much its first overrun interval is exceeded, and by what: fits FILE HORIZON.
 // It ends with 0 where it has answered, 1 where the sheet or the horizon was refused, 2 where it was called wrongly.
 #include <cstdint>
 #include <fstream>
@@ -27,20 +27,20 @@ static std::uint64_t number_of(const std::string &word)
 
 static int answer(const std::vector<std::uint8_t> &sheet, std::uint64_t horizon)
 {
+    static const char *const causes[] = {"nothing", "the engine alone", "the fixed tasks alone", "only both together"};
     // Room for every horizon that is not refused; a refused sheet has no rows, and no cells are needed to say so.
     const std::size_t rows = marnipode_judge(sheet.data(), sheet.size()).rows;
     std::vector<std::uint32_t> cells(rows * (MARNIPODE_LONGEST_TIME + 1));
-    const auto verdict = marnipode_verdict_by_interval(sheet.data(), sheet.size(), horizon, cells.data(), cells.size());
-    if (verdict.number != 0) {
-        std::cout << "refused " << unsigned(verdict.number) << " at " << verdict.place << '\n';
+    std::vector<std::uint8_t> witness(MARNIPODE_LONGEST_TIME);
+    const auto why = marnipode_explain(sheet.data(), sheet.size(), horizon, cells.data(), cells.size(), witness.data(), witness.size());
+    if (why.number != 0) {
+        std::cout << "refused " << unsigned(why.number) << " at " << why.place << '\n';
         return 1;
     }
-    if (verdict.overrun == 0) {
+    if (why.cause == MARNIPODE_CAUSE_NONE)
         std::cout << "holds up to " << horizon << '\n';
-        return 0;
-    }
-    const auto margin = marnipode_margin(sheet.data(), sheet.size(), verdict.overrun, cells.data(), cells.size());
-    std::cout << "fails at " << verdict.overrun << ", by " << -margin.margin << '\n';
+    else
+        std::cout << "fails at " << why.overrun << ", by " << why.excess << ": " << causes[why.cause] << '\n';
     return 0;
 }
 

@@ -1,2 +1,3 @@
 pub mod Beginnings
 pub mod GoingOn
+pub mod Showing

@@ -3,10 +3,9 @@ use Prim.Native.Nat.{ℕ, _+_, _*_}
 use native.Mathlib.Nat.{eq-zero-or-pos, zero-mul}
 use mathlib.Core.Path.{_≡_, sym, ap, _∙_, subst}
 use mathlib.Core.Logic.{⊎-elim}
-use mathlib.Core.Bool.{Bool, true, false}
-use mathlib.Core.List.{List, _++_}
-use lib.Dec.{ltb, eqb}
-use lib.ListN.{length, drop}
+use mathlib.Core.List.{List}
+use lib.Dec.{eqb}
+use lib.ListN.{length}
 use lib.Seq.{ext-getD}
 use native.Mathlib.Omega.{arith}
 use Rattle.meaning.specs.Demand.{noTime}
@@ -15,7 +14,7 @@ use Rattle.meaning.proofs.Unique.{demand-unique, shortest-unique, best-unique, 
 use Rattle.meaning.proofs.Margins.{margin-unique}
 use Rattle.meaning.proofs.Verdicts.{verdict-unique}
 use Rattle.meaning.proofs.Filling.{filled-unique}
-use Rattle.fields.specs.Deciding.{pick}
+use Rattle.fields.proofs.Deciding.{pick-alike}
 use Rattle.sheet.specs.Judging.{judged}
 use Rattle.desk.specs.Calls.{DemandRefuses, DemandGives, DemandAnswers, DemandCall, MarginRefuses, MarginAnswers, MarginCall, ShortestRefuses, ShortestGives, ShortestAnswers, ShortestCall, VerdictRefuses, VerdictAnswers, VerdictCall, VerdictByIntervalCall, VerdictByAmountCall, verdictAnswer}
 use Rattle.beginning.specs.Beginning.{graph, tasks, rows, FilledByInterval, FilledByAmount, intervalRules, amountRules}
@@ -27,12 +26,7 @@ use Rattle.desk.specs.declared.ShortestAnswer as shortest
 use Rattle.desk.specs.declared.ShortestAnswer.the-variants as shortest-case
 use Rattle.desk.specs.declared.VerdictAnswer as verdict
 use Rattle.beginning.proofs.Beginnings.{begins-alike}
-
--- two promises chosen by the same test are both the one or both the other
-pick-alike : (test : Bool) (T U E F C : Type 0) → (T → U → C) → (E → F → C) → pick test T E → pick test U F → C
-unfolding pick
-pick-alike true T U E F C yes-both no-both a b = yes-both a b
-pick-alike false T U E F C yes-both no-both a b = no-both a b
+use Rattle.beginning.proofs.Showing.{shown-alike}
 
 -- whole lines of cells that have one right value each determine the area, also where a line has none
 lines-unique : (n : ℕ) (Right : ℕ → ℕ → ℕ → Type 0) (one : (line k v u : ℕ) → Right line k v → Right line k u → v ≡ u)
@@ -55,16 +49,6 @@ module _ (bytes : List ℕ) (count : ℕ) (old a b : List ℕ) where
 
 -- `demand` has one answer, and leaves one content of the cells and of the area
 module _ (bytes : List ℕ) (t : ℕ) (cells area : List ℕ) (x y : demand.DemandAnswer) (cells₁ cells₂ area₁ area₂ : List ℕ) where
-  gives-alike : (amount : ℕ) (witness : List ℕ) → DemandGives area x area₁ amount witness → DemandGives area y area₂ amount witness
-      → (x ≡ y) × (area₁ ≡ area₂)
-  gives-alike amount witness =
-      pick-alike (ltb (length area) (length witness)) _ _ _ _ _
-      (λ (p : (x ≡ demand-case.Refused 13 0) × (area₁ ≡ area)) (q : (y ≡ demand-case.Refused 13 0) × (area₂ ≡ area)).
-      (p .0 ∙ sym (q .0), p .1 ∙ sym (q .1)))
-      (λ (p : (x ≡ demand-case.Found amount (length witness)) × (area₁ ≡ witness ++ drop (length witness) area))
-      (q : (y ≡ demand-case.Found amount (length witness)) × (area₂ ≡ witness ++ drop (length witness) area)).
-      (p .0 ∙ sym (q .0), p .1 ∙ sym (q .1)))
-
   demand-answered : DemandAnswers bytes t cells area x cells₁ area₁ → DemandAnswers bytes t cells area y cells₂ area₂
       → (x ≡ y) × (cells₁ ≡ cells₂) × (area₁ ≡ area₂)
   demand-answered (filled₁, (amount₁, witness₁, most₁, first₁, gives₁)) (filled₂, (amount₂, witness₂, most₂, first₂, gives₂)) =
@@ -73,7 +57,7 @@ module _ (bytes : List ℕ) (t : ℕ) (cells area : List ℕ) (x y : demand.Dema
       let gives : DemandGives area y area₂ amount₁ witness₁ =
       subst (λ (d : ℕ). DemandGives area y area₂ d witness₁) same-amount
       (subst (λ (w : List ℕ). DemandGives area y area₂ amount₂ w) same-witness gives₂) in
-      let alike = gives-alike amount₁ witness₁ gives₁ gives in
+      let alike = shown-alike witness₁ area (demand-case.Found amount₁ (length witness₁)) (demand-case.Refused 13 0) x y area₁ area₂ gives₁ gives in
       (alike .0, by-interval-unique bytes (t + 1) cells cells₁ cells₂ filled₁ filled₂, alike .1)
 
   pub demand-determined : DemandCall bytes t cells area x cells₁ area₁ → DemandCall bytes t cells area y cells₂ area₂

@@ -3,13 +3,13 @@ use Prim.Native.Nat.{ℕ, _+_, _*_, _^_, _≤_, _<_}
 use native.Mathlib.Nat.{mul-le-mul-left}
 use native.Mathlib.Omega.{arith}
 use mathlib.Core.Path.{_≡_, refl, sym, ap, ap₂, _∙_, subst}
-use mathlib.Core.List.{List, _++_}
+use mathlib.Core.List.{List}
 use lib.IntN.{ℤ, pos, _-ℤ_}
-use lib.ListN.{length, drop}
+use lib.ListN.{length}
 use mir.Syntax.{w64}
 use mir.Val.{toZ, ofZ}
 use mir.Facts.{toZ-pos}
-use borrow.Author.Tests.{lt-ltb, le-ltb, eq-eqb, ne-eqb}
+use borrow.Author.Tests.{eq-eqb, ne-eqb}
 use Rattle.meaning.specs.Graph.{Graph}
 use Rattle.meaning.specs.Demand.{noTime, IsDemand, IsWitness, IsShortest}
 use Rattle.meaning.specs.Cells.{ByInterval, ByAmount, Filled}
@@ -32,8 +32,13 @@ use Rattle.overruns.specs.declared.sweep.Swept.{Swept}
 use Rattle.tables.proofs.Lines.{filled-lines, line-demand}
 use Rattle.tables.proofs.Amounts.{line-shortest}
 use Rattle.beginning.specs.Beginning.{graph, tasks, rows, roomFor}
+use Rattle.beginning.proofs.Showing.{shown-as}
 use Rattle.desk.specs.Calls.{DemandAnswers, MarginAnswers, ShortestGives, ShortestAnswers, VerdictAnswers, verdictAnswer}
 use Rattle.desk.specs.WhichTable.{filledBy}
+use Rattle.witness.specs.Stands.{IsShown}
+use Rattle.witness.specs.declared.Shown.{Shown}
+use Rattle.witness.specs.declared.Shown.the-variants.{Rows, TooLong}
+use Rattle.desk.specs.declared.DemandAnswer as demand
 use Rattle.desk.specs.declared.DemandAnswer.the-variants as demand-case
 use Rattle.desk.specs.declared.MarginAnswer.the-variants as margin-case
 use Rattle.desk.specs.declared.ShortestAnswer as shortest
@@ -46,10 +51,15 @@ room-for-fewer rows count lines cells fewer room =
     let less : rows * lines ≤ rows * count = mul-le-mul-left {m = lines} {n = count} rows fewer in
     omega arith
 
+-- what `demand` answers with a witness as it is shown
+abbrev pub demandAs : ℕ → Shown → demand.DemandAnswer
+demandAs amount (Rows count) = demand-case.Found amount count
+demandAs amount TooLong = demand-case.Refused 13 0
+
 -- a sheet in hand, and the bytes that it was judged from
 module _ (bytes : List ℕ) (sheet : Sheet) (is : sheet ≡ judged bytes .sheet) (ready : Ready bytes sheet) where
   -- lines filled for the sheet, of either table, are those that the call promises
-  lines-filled : (Right : Graph → ℕ → ℕ → ℕ → Type 0) (count : ℕ) (old new : List ℕ)
+  pub lines-filled : (Right : Graph → ℕ → ℕ → ℕ → Type 0) (count : ℕ) (old new : List ℕ)
       → Filled (sheet .tally .rows) (Right (graphOf bytes sheet)) old new (sheet .tally .rows * count) → Filled (rows bytes) (Right (graph bytes)) old new (roomFor bytes count)
   lines-filled Right count old new =
       subst (λ (s : Sheet). Filled (s .tally .rows) (Right (graphOf bytes s)) old new (s .tally .rows * count)) is
@@ -58,18 +68,23 @@ module _ (bytes : List ℕ) (sheet : Sheet) (is : sheet ≡ judged bytes .sheet)
   pub room-told : (count : ℕ) (cells : List ℕ) → roomFor bytes count ≤ length cells → sheet .tally .rows * count ≤ length cells
   room-told count cells = subst (λ (s : Sheet). s .tally .rows * count ≤ length cells) (sym is)
 
+  -- the largest cell of a line by interval is the demand
+  pub demand-told : (t : ℕ) (cells : List ℕ) → HasLines (sheet .tally .rows) (ByInterval (graphOf bytes sheet)) cells (t + 1)
+      → (amount : ℕ) → amount ≡ maxBelow (sheet .tally .rows) (cellAt (sheet .tally .rows) cells t) → IsDemand (graph bytes) t amount
+  unfolding graphOf
+  demand-told t cells table amount e =
+      subst (λ (s : Sheet). IsDemand (graphOf bytes s) t amount) is
+      (subst (IsDemand (graphOf bytes sheet) t) (sym e) (line-demand (graphOf bytes sheet) (ready .sound) cells (t + 1) table t (omega arith)))
+
+  -- the witness that is written is that of the demand
+  pub witness-told : (t : ℕ) → IsWitness (graph bytes) t (witnessOf (graphOf bytes sheet) t)
+  witness-told t = subst (λ (s : Sheet). IsWitness (graphOf bytes s) t (witnessOf (graphOf bytes sheet) t)) is (witness-of (graphOf bytes sheet) (ready .sound) t)
+
   module _ (t : ℕ) (old new : List ℕ) (room : sheet .tally .rows * (t + 1) ≤ length old)
       (filled : Filled (sheet .tally .rows) (ByInterval (graphOf bytes sheet)) old new (sheet .tally .rows * (t + 1))) where
     -- the filled lines, as the witness asks for them
     pub lines-told : HasLines (sheet .tally .rows) (ByInterval (graphOf bytes sheet)) new (t + 1)
     lines-told = filled-lines (sheet .tally .rows) (ByInterval (graphOf bytes sheet)) (t + 1) old new room filled
-
-    -- the largest cell of the last line is the demand
-    demand-told : (amount : ℕ) → amount ≡ maxBelow (sheet .tally .rows) (cellAt (sheet .tally .rows) new t) → IsDemand (graph bytes) t amount
-    unfolding graphOf
-    demand-told amount e =
-        subst (λ (s : Sheet). IsDemand (graphOf bytes s) t amount) is
-        (subst (IsDemand (graphOf bytes sheet) t) (sym e) (line-demand (graphOf bytes sheet) (ready .sound) new (t + 1) lines-told t (omega arith)))
 
     -- a margin read off the last line and fixed demand
     pub margin-told : (amount fixed : ℕ) (m : ℤ)
@@ -82,48 +97,28 @@ module _ (bytes : List ℕ) (sheet : Sheet) (is : sheet ≡ judged bytes .sheet)
             m,
             (
               amount,
-              demand-told amount most,
+              demand-told t new lines-told amount most,
               e ∙ difference t (amount + fixed) ∙ sym (margin-sub t amount fixed) ∙ ap (λ (f : ℕ). pos t -ℤ pos amount -ℤ pos f) same-sum,
             ),
             refl,
           ),
         )
 
-    witness-told : IsWitness (graph bytes) t (witnessOf (graphOf bytes sheet) t)
-    witness-told = subst (λ (s : Sheet). IsWitness (graphOf bytes s) t (witnessOf (graphOf bytes sheet) t)) is (witness-of (graphOf bytes sheet) (ready .sound) t)
-
-    -- a demand read off the last line, with a witness that does not fit
-    pub demand-too-long : (amount : ℕ) (area : List ℕ)
-        → amount ≡ maxBelow (sheet .tally .rows) (cellAt (sheet .tally .rows) new t) → length area < length (witnessOf (graphOf bytes sheet) t)
-        → DemandAnswers bytes t old area (demand-case.Refused 13 0) new area
-    unfolding pick
-    demand-too-long amount area most long = (
-      lines-filled ByInterval (t + 1) old new filled,
-      (
-        amount,
-        witnessOf (graphOf bytes sheet) t,
-        demand-told amount most,
-        witness-told,
-        rw (lt-ltb (length area) (length (witnessOf (graphOf bytes sheet) t)) long) (refl, refl),
-      ),
-    )
-
-    -- and with one that is written
-    pub demand-written : (amount count : ℕ) (area area′ : List ℕ)
-        → amount ≡ maxBelow (sheet .tally .rows) (cellAt (sheet .tally .rows) new t) → count ≡ length (witnessOf (graphOf bytes sheet) t)
-        → length (witnessOf (graphOf bytes sheet) t) ≤ length area → area′ ≡ witnessOf (graphOf bytes sheet) t ++ drop (length (witnessOf (graphOf bytes sheet) t)) area
-        → DemandAnswers bytes t old area (demand-case.Found amount count) new area′
-    unfolding pick
-    demand-written amount count area area′ most counted fits written = (
-      lines-filled ByInterval (t + 1) old new filled,
-      (
-        amount,
-        witnessOf (graphOf bytes sheet) t,
-        demand-told amount most,
-        witness-told,
-        rw (le-ltb (length area) (length (witnessOf (graphOf bytes sheet) t)) fits) (ap (demand-case.Found amount) counted, written),
-      ),
-    )
+    -- a demand read off the last line, with its witness as it is shown
+    pub demand-shown : (amount : ℕ) (area area′ : List ℕ) (shown : Shown)
+        → amount ≡ maxBelow (sheet .tally .rows) (cellAt (sheet .tally .rows) new t) → IsShown (witnessOf (graphOf bytes sheet) t) area shown area′
+        → DemandAnswers bytes t old area (demandAs amount shown) new area′
+    demand-shown amount area area′ shown most is-shown =
+        let witness : List ℕ = witnessOf (graphOf bytes sheet) t in (
+          lines-filled ByInterval (t + 1) old new filled,
+          (
+            amount,
+            witness,
+            demand-told t new lines-told amount most,
+            witness-told t,
+            shown-as witness area (Rows (length witness)) TooLong (demandAs amount) shown area′ is-shown,
+          ),
+        )
 
   module _ (b : ℕ) (some : 1 ≤ b) (old new : List ℕ) (room : sheet .tally .rows * b ≤ length old)
       (filled : Filled (sheet .tally .rows) (ByAmount (graphOf bytes sheet)) old new (sheet .tally .rows * b)) where

@@ -1,15 +1,15 @@
 -- What each call promises: the answer, every lent cell and every byte of the witness area, for any bytes and any numbers.
 use Prim.Native.Nat.{ℕ, _+_}
 use mathlib.Core.Path.{_≡_}
-use mathlib.Core.List.{List, _++_}
-use lib.Dec.{ltb, eqb}
-use lib.ListN.{length, drop}
+use mathlib.Core.List.{List}
+use lib.Dec.{eqb}
+use lib.ListN.{length}
 use lib.IntN.{ℤ}
 use Rattle.meaning.specs.Demand.{noTime, IsDemand, IsWitness, IsShortest}
 use Rattle.meaning.specs.Verdict.{Verdict, holds, overrun, IsMargin, IsVerdict}
 use Rattle.fields.specs.Deciding.{pick}
 use Rattle.sheet.specs.Judging.{judged}
-use Rattle.beginning.specs.Beginning.{graph, tasks, FilledByInterval, FilledByAmount, intervalRules, amountRules, Begins}
+use Rattle.beginning.specs.Beginning.{graph, tasks, FilledByInterval, FilledByAmount, intervalRules, amountRules, Begins, WitnessShown}
 use Rattle.desk.specs.declared.DemandAnswer as demand
 use Rattle.desk.specs.declared.DemandAnswer.the-variants as demand-case
 use Rattle.desk.specs.declared.MarginAnswer as margin
@@ -24,12 +24,10 @@ abbrev pub DemandRefuses : List ℕ → List ℕ → demand.DemandAnswer → Lis
 DemandRefuses cells area answer cells′ area′ number place =
     (answer ≡ demand-case.Refused number place) × (cells′ ≡ cells) × (area′ ≡ area)
 
--- the amount and the witness as answered: the witness's rows stand at the front of the area, or rule 13 is broken, with the area untouched, where they do not fit
+-- the amount and the witness as answered, or rule 13 is broken
 abbrev pub DemandGives : List ℕ → demand.DemandAnswer → List ℕ → ℕ → List ℕ → Type 0
 DemandGives area answer area′ amount witness =
-    pick (ltb (length area) (length witness))
-    ((answer ≡ demand-case.Refused 13 0) × (area′ ≡ area))
-    ((answer ≡ demand-case.Found amount (length witness)) × (area′ ≡ witness ++ drop (length witness) area))
+    WitnessShown witness area (demand-case.Found amount (length witness)) (demand-case.Refused 13 0) answer area′
 
 -- demand at t
 abbrev pub DemandAnswers : List ℕ → ℕ → List ℕ → List ℕ → demand.DemandAnswer → List ℕ → List ℕ → Type 0

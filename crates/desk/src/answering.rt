@@ -14,8 +14,8 @@ use tables::amount::shortest_of;
 use tables::fill;
 use tables::interval::demand_of;
 use tables::interval::fill_by_interval;
-use witness::witness_count;
-use witness::write_witness;
+use witness::Shown;
+use witness::show_witness;
 ghost use mathlib.Core.Path.{_≡_};
 ghost use Prim.Native.Nat.{_+_, _^_, _≤_, _<_};
 ghost use lib.IntN.{pos, _-ℤ_};
@@ -28,7 +28,7 @@ ghost use Rattle.beginning.specs.Beginning.{roomFor};
 ghost use Rattle.desk.specs.Calls.{DemandAnswers, MarginAnswers, ShortestAnswers, VerdictAnswers, verdictAnswer};
 ghost use Rattle.desk.specs.WhichTable.{filledBy};
 
-// The table by interval, then the largest cell of its last line and the witness, which is counted before it is written: rule 13.
+// The table by interval, then the largest cell of its last line and the witness, or rule 13.
 pub(crate) fn demand_in(
     bytes: &[u8],
     sheet: Sheet,
@@ -45,17 +45,15 @@ pub(crate) fn demand_in(
     fill_by_interval(bytes, sheet, cells, t);
     let tally = sheet.tally;
     let amount = demand_of(cells, tally.rows, t);
-    let count = witness_count(bytes, sheet, cells, t);
-    if area.len() < count {
-        return DemandAnswer::Refused {
+    match show_witness(bytes, sheet, cells, t, area) {
+        Shown::Rows(count) => DemandAnswer::Found {
+            amount: amount,
+            count: count,
+        },
+        Shown::TooLong => DemandAnswer::Refused {
             number: 13,
             place: 0,
-        };
-    }
-    write_witness(bytes, sheet, cells, t, area);
-    DemandAnswer::Found {
-        amount: amount,
-        count: count,
+        },
     }
 }
 

@@ -20,6 +20,12 @@ pub no : {A : Type 0} (b : Bool) (x y z : A) → b ≡ false → z ≡ y → z �
 unfolding pick
 no b x y z e h = rw e h
 
+-- two promises chosen by the same test are both the one or both the other
+pub pick-alike : (test : Bool) (T U E F C : Type 0) → (T → U → C) → (E → F → C) → pick test T E → pick test U F → C
+unfolding pick
+pick-alike true T U E F C yes-both no-both a b = yes-both a b
+pick-alike false T U E F C yes-both no-both a b = no-both a b
+
 -- a call that answered a test's value
 pub told : (r b v : Bool) → r ≡ b → r ≡ v → b ≡ v
 told r b v p q = sym p ∙ q

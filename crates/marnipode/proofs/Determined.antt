@@ -5,12 +5,15 @@ use mathlib.Core.List.{List}
 use Rattle.fields.proofs.Determined.{Determines, one-value}
 use Rattle.desk.specs.Calls.{MarginCall, ShortestCall, VerdictByIntervalCall, VerdictByAmountCall}
 use Rattle.desk.proofs.Determined.{demand-determined, margin-determined, shortest-determined, verdict-by-interval-determined, verdict-by-amount-determined}
+use Rattle.explain.proofs.Determined.{explain-determined}
 use Rattle.numbers.specs.Flat.{flatDemand, flatMargin, flatShortest, flatVerdict}
-use Rattle.marnipode.specs.Exported.{Numbers, DemandExport, MarginExport, ShortestExport, VerdictByIntervalExport, VerdictByAmountExport}
+use Rattle.explain_numbers.specs.Flat.{flatExplained}
+use Rattle.marnipode.specs.Exported.{Numbers, DemandExport, MarginExport, ShortestExport, VerdictByIntervalExport, VerdictByAmountExport, ExplainExport}
 use Rattle.numbers.specs.declared.DemandForC.{DemandForC}
 use Rattle.numbers.specs.declared.MarginForC.{MarginForC}
 use Rattle.numbers.specs.declared.ShortestForC.{ShortestForC}
 use Rattle.numbers.specs.declared.VerdictForC.{VerdictForC}
+use Rattle.explain_numbers.specs.declared.ExplainForC.{ExplainForC}
 use Rattle.marnipode.proofs.marnipode_judge.Kinds as judge
 use Rattle.marnipode.proofs.marnipode_judge.Reads as judge-reads
 use Rattle.marnipode.proofs.marnipode_label.Kinds as label
@@ -66,3 +69,10 @@ module _ (bytes : List ℕ) (number : ℕ) (cells : List ℕ) where
       → VerdictByAmountExport bytes number cells n left → VerdictByAmountExport bytes number cells m right → (n ≡ m) × (left ≡ right)
   verdict-by-amount-export-determined =
       export-determined (VerdictByAmountCall bytes number cells) (verdict-by-amount-determined bytes number cells) flatVerdict
+
+  pub explain-export-determined : (area : List ℕ) (n m : ExplainForC) (cells₁ cells₂ area₁ area₂ : List ℕ)
+      → ExplainExport bytes number cells area n cells₁ area₁ → ExplainExport bytes number cells area m cells₂ area₂
+      → (n ≡ m) × (cells₁ ≡ cells₂) × (area₁ ≡ area₂)
+  explain-export-determined area n m cells₁ cells₂ area₁ area₂ (x, p, e) (y, q, f) =
+      let same = explain-determined bytes number cells area x y cells₁ cells₂ area₁ area₂ p q in
+      (same-numbers flatExplained x y n m (same .0) e f, same .1, same .2)

@@ -7,11 +7,15 @@ use Rattle.desk.specs.declared.DemandAnswer.{DemandAnswer}
 use Rattle.desk.specs.declared.MarginAnswer.{MarginAnswer}
 use Rattle.desk.specs.declared.ShortestAnswer.{ShortestAnswer}
 use Rattle.desk.specs.declared.VerdictAnswer.{VerdictAnswer}
+use Rattle.explain.specs.Calls.{ExplainCall}
+use Rattle.explain.specs.declared.Explained.{Explained}
 use Rattle.numbers.specs.Flat.{flatDemand, flatMargin, flatShortest, flatVerdict}
 use Rattle.numbers.specs.declared.DemandForC.{DemandForC}
 use Rattle.numbers.specs.declared.MarginForC.{MarginForC}
 use Rattle.numbers.specs.declared.ShortestForC.{ShortestForC}
 use Rattle.numbers.specs.declared.VerdictForC.{VerdictForC}
+use Rattle.explain_numbers.specs.Flat.{flatExplained}
+use Rattle.explain_numbers.specs.declared.ExplainForC.{ExplainForC}
 
 -- an answer of a type A that is allowed and has these numbers
 abbrev pub Numbers : {A N : Type 0} → (A → Type 0) → (A → N) → N → Type 0
@@ -34,3 +38,7 @@ VerdictByIntervalExport bytes horizon cells numbers cells′ =
 abbrev pub VerdictByAmountExport : List ℕ → ℕ → List ℕ → VerdictForC → List ℕ → Type 0
 VerdictByAmountExport bytes horizon cells numbers cells′ =
     Numbers (λ (answer : VerdictAnswer). VerdictByAmountCall bytes horizon cells answer cells′) flatVerdict numbers
+
+abbrev pub ExplainExport : List ℕ → ℕ → List ℕ → List ℕ → ExplainForC → List ℕ → List ℕ → Type 0
+ExplainExport bytes horizon cells area numbers cells′ area′ =
+    Numbers (λ (explained : Explained). ExplainCall bytes horizon cells area explained cells′ area′) flatExplained numbers

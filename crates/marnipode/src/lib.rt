@@ -1,4 +1,6 @@
 // The calls for C, as include/marnipode.h declares them: numbers and slices in, a plain struct of numbers out.
+use explain_numbers::ExplainForC;
+use explain_numbers::explain_numbers;
 use numbers::DemandForC;
 use numbers::FieldForC;
 use numbers::JudgeForC;
@@ -17,7 +19,7 @@ ghost use mathlib.Core.Path.{_≡_};
 ghost use Rattle.sheet.specs.Judging.{judged};
 ghost use Rattle.fields.specs.Reading.{fieldAt};
 ghost use Rattle.numbers.specs.Flat.{flatJudged, flatLabel, flatStep};
-ghost use Rattle.marnipode.specs.Exported.{DemandExport, MarginExport, ShortestExport, VerdictByIntervalExport, VerdictByAmountExport};
+ghost use Rattle.marnipode.specs.Exported.{DemandExport, MarginExport, ShortestExport, VerdictByIntervalExport, VerdictByAmountExport, ExplainExport};
 
 #[no_mangle]
 pub extern "C" fn marnipode_judge(bytes: &[u8]) -> JudgeForC
@@ -87,4 +89,16 @@ pub extern "C" fn marnipode_verdict_by_amount(
     ensures { λ r. ⌜ VerdictByAmountExport (now (bytes .entry)) horizon (now (cells .entry)) r (now (cells .exit)) ⌝ }
 {
     verdict_numbers(desk::verdict_by_amount(bytes, horizon, cells))
+}
+
+#[no_mangle]
+pub extern "C" fn marnipode_explain(
+    bytes: &[u8],
+    horizon: u64,
+    cells: &mut [u32],
+    witness: &mut [u8],
+) -> ExplainForC
+    ensures { λ r. ⌜ ExplainExport (now (bytes .entry)) horizon (now (cells .entry)) (now (witness .entry)) r (now (cells .exit)) (now (witness .exit)) ⌝ }
+{
+    explain_numbers(explain::explain(bytes, horizon, cells, witness))
 }

@@ -11,7 +11,7 @@ ghost use Rattle.sheet.specs.Meaning.{timesOf, tasksOf};
 ghost use Rattle.overruns.specs.Releases.{IsProper, AreTimes, Advanced};
 
 // The times of the fixed tasks as numbers, since only arrays of numbers are lent: each task's length and period, and when its next job falls due.
-pub(crate) struct Times {
+pub struct Times {
     pub lengths: [u16; Sheet::TASKS],
     pub periods: [u16; Sheet::TASKS],
     pub dues: [usize; Sheet::TASKS],
@@ -36,7 +36,7 @@ pub fn fixed_sum(sheet: Sheet, t: usize) -> u64
 }
 
 // Fixed demand of one task at t.
-fn fixed_of(task: Task, t: usize) -> u64
+pub fn fixed_of(task: Task, t: usize) -> u64
     requires { ⌜ 1 ≤ task .period .0 ⌝ }
     requires { ⌜ t ≤ longestTime ⌝ }
     ensures { λ r. ⌜ (r ≡ fixedOf (timesOf task) t) × (r ≤ longestTime * (longestTime + 1)) ⌝ }
@@ -50,7 +50,7 @@ fn fixed_of(task: Task, t: usize) -> u64
 }
 
 // The times of a sheet's tasks before the first interval.
-pub(crate) fn times_of(sheet: Sheet) -> Times
+pub fn times_of(sheet: Sheet) -> Times
     ensures { λ r. ⌜ AreTimes sheet r ⌝ }
 {
     let mut lengths = [0u16; Sheet::TASKS];
@@ -72,7 +72,7 @@ pub(crate) fn times_of(sheet: Sheet) -> Times
 }
 
 // What falls due at t. A task whose job does so waits for its next one, a period later, so that no interval takes a division.
-pub(crate) fn advance(
+pub fn advance(
     lengths: &[u16; Sheet::TASKS],
     periods: &[u16; Sheet::TASKS],
     dues: &mut [usize; Sheet::TASKS],

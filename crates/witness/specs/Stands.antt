@@ -6,6 +6,9 @@ use mathlib.Core.Path.{_≡_}
 use lib.Dec.{eqb}
 use lib.ListN.{length, drop}
 use Rattle.meaning.specs.Computed.{maxBelow, seek, cellAt, viaAt}
+use Rattle.beginning.specs.Beginning.{WitnessShown}
+use Rattle.witness.specs.declared.Shown.{Shown}
+use Rattle.witness.specs.declared.Shown.the-variants.{Rows, TooLong}
 use Rattle.witness.specs.declared.Stand.{Stand}
 
 -- row j leads on with s left: it adds just the work wanted
@@ -35,3 +38,7 @@ onwardOf gap cells own n stand =
 pub record Written (list old new : List ℕ) (count : ℕ) : Type 0 where
   pub counted : count ≡ length list
   pub is : new ≡ list ++ drop (length list) old
+
+-- a witness was shown in an area, or does not fit it
+abbrev pub IsShown : List ℕ → List ℕ → Shown → List ℕ → Type 0
+IsShown witness area = WitnessShown witness area (Rows (length witness)) TooLong

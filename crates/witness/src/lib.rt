@@ -18,7 +18,7 @@ ghost use Rattle.sheet.specs.Meaning.{gapOf, graphOf};
 ghost use Rattle.sheet.specs.Proper.{ProperRow};
 ghost use Rattle.tables.specs.Lines.{HasLines};
 ghost use Rattle.sheet.specs.Ready.{Ready};
-ghost use Rattle.witness.specs.Stands.{Written, leads, firstWith, startOf, onwardOf};
+ghost use Rattle.witness.specs.Stands.{Written, IsShown, leads, firstWith, startOf, onwardOf};
 
 // Where a witness stands: at a row, with the time and the work that are left from it on.
 pub struct Stand {
@@ -27,8 +27,29 @@ pub struct Stand {
     pub work: u32,
 }
 
+// How many rows a witness has that was written, or that they do not fit.
+pub enum Shown {
+    Rows(usize),
+    TooLong,
+}
+
+// The rows of the witness at t, a byte each, in an area that may be too short for them: they are counted before they are written, for rule 13.
+pub fn show_witness(bytes: &[u8], sheet: Sheet, cells: &[u32], t: usize, area: &mut [u8]) -> Shown
+    requires { ⌜ Ready (now bytes) sheet ⌝ }
+    requires { ⌜ t ≤ longestTime ⌝ }
+    requires { ⌜ HasLines (sheet .tally .rows) (ByInterval (graphOf (now bytes) sheet)) (now cells) (t + 1) ⌝ }
+    ensures { λ r. ⌜ IsShown (witnessOf (graphOf (now (bytes .entry)) sheet) t) (now (area .entry)) r (now (area .exit)) ⌝ }
+{
+    let count = witness_count(bytes, sheet, cells, t);
+    if area.len() < count {
+        return Shown::TooLong;
+    }
+    write_witness(bytes, sheet, cells, t, area);
+    Shown::Rows(count)
+}
+
 // How many rows the witness at t has.
-pub fn witness_count(bytes: &[u8], sheet: Sheet, cells: &[u32], t: usize) -> usize
+fn witness_count(bytes: &[u8], sheet: Sheet, cells: &[u32], t: usize) -> usize
     requires { ⌜ Ready (now bytes) sheet ⌝ }
     requires { ⌜ t ≤ longestTime ⌝ }
     requires { ⌜ HasLines (sheet .tally .rows) (ByInterval (graphOf (now bytes) sheet)) (now cells) (t + 1) ⌝ }
@@ -55,7 +76,7 @@ pub fn witness_count(bytes: &[u8], sheet: Sheet, cells: &[u32], t: usize) -> usi
 }
 
 // Writes the rows of the witness at t, a byte each, into an area that has room for them, and gives their count. Bytes past it keep their values.
-pub fn write_witness(bytes: &[u8], sheet: Sheet, cells: &[u32], t: usize, area: &mut [u8]) -> usize
+fn write_witness(bytes: &[u8], sheet: Sheet, cells: &[u32], t: usize, area: &mut [u8]) -> usize
     requires { ⌜ Ready (now bytes) sheet ⌝ }
     requires { ⌜ t ≤ longestTime ⌝ }
     requires { ⌜ HasLines (sheet .tally .rows) (ByInterval (graphOf (now bytes) sheet)) (now cells) (t + 1) ⌝ }

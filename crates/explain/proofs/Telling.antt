@@ -1,0 +1,131 @@
+-- What the lines of an accepted sheet tell `explain`: what was found in one pass over them, and the numbers read at an overrun, are those that the call promises.
+use Prim.Native.Nat.{ℕ, _+_, _*_, _≤_, _<_}
+use native.Mathlib.Omega.{arith}
+use mathlib.Core.Path.{_≡_, refl, sym, ap, _∙_, subst}
+use mathlib.Core.List.{List}
+use lib.ListN.{length}
+use borrow.Author.Tests.{eq-eqb, ne-eqb}
+use Rattle.meaning.specs.Cells.{ByInterval, Filled}
+use Rattle.meaning.specs.Computed.{witnessOf}
+use Rattle.meaning.specs.Demand.{IsDemand}
+use Rattle.meaning.specs.Fixed.{fixedSum}
+use Rattle.meaning.specs.Verdict.{holds, overrun, Overruns}
+use Rattle.meaning.proofs.Margins.{overruns-by-demand}
+use Rattle.fields.specs.Deciding.{pick}
+use Rattle.fields.specs.declared.values.Sheet.{Sheet}
+use Rattle.sheet.specs.Judging.{judged}
+use Rattle.sheet.specs.Meaning.{graphOf, tasksOf}
+use Rattle.sheet.specs.Ready.{Ready}
+use Rattle.tables.specs.Lines.{HasLines}
+use Rattle.witness.specs.Stands.{IsShown}
+use Rattle.witness.specs.declared.Shown.{Shown}
+use Rattle.witness.specs.declared.Shown.the-variants.{Rows, TooLong}
+use Rattle.beginning.specs.Beginning.{graph, tasks, WitnessShown}
+use Rattle.beginning.proofs.Showing.{shown-as}
+use Rattle.desk.proofs.Telling.{room-for-fewer, lines-filled, demand-told, witness-told}
+use Rattle.explain.specs.Reasons.{Sums, excessOf, allDemands}
+use Rattle.explain.specs.Looking.{Shows, engineIn, toldWith, ToldAt}
+use Rattle.explain.specs.Calls.{plainly, failing, FailsAt, ExplainAnswers}
+use Rattle.explain.specs.declared.Cause.{Cause}
+use Rattle.explain.specs.declared.Explained.{Explained}
+use Rattle.explain.specs.declared.ExplainAnswer.the-variants.{Holds, NoInterval, Fails, Refused}
+use Rattle.explain.specs.declared.looking.Tightest.{Tightest}
+use Rattle.explain.specs.declared.looking.Tightest.the-variants as tightest-case
+
+-- an area that has some lines has fewer
+pub fewer-lines : (n : ℕ) (Right : ℕ → ℕ → ℕ → Type 0) (cells : List ℕ) (count lines : ℕ) → lines ≤ count → HasLines n Right cells count
+    → HasLines n Right cells lines
+fewer-lines n Right cells count lines fewer table = record {
+  room = room-for-fewer n count lines (length cells) fewer (table .room);
+  right = λ line k l h. table .right line k (omega arith) h;
+}
+
+-- the numbers read at an overrun, with its cause
+module _ (sheet : Sheet) (cells : List ℕ) (t fixed engine : ℕ) (cause : Cause) (shown : Shown)
+    (most : engine ≡ engineIn sheet cells t) (sums : Sums cause t engine fixed) where
+  sums-there : Sums cause t (engineIn sheet cells t) fixed
+  sums-there = subst (λ (d : ℕ). Sums cause t d fixed) most sums
+
+  -- the witness does not fit
+  pub too-long-told : (explained : Explained) → shown ≡ TooLong → explained ≡ plainly (Refused 13 0) → ToldAt sheet cells t fixed shown explained
+  too-long-told explained none e = (cause, sums-there, rw none e)
+
+  -- the witness is shown, and the numbers are told
+  pub numbers-told : (count : ℕ) (demands : List ℕ) → shown ≡ Rows count → fixed ≡ fixedSum (tasksOf sheet) t → demands ≡ allDemands (tasksOf sheet) t
+      → ToldAt sheet cells t fixed shown (record { answer = Fails t cause engine (excessOf t engine fixed) count; demands = demands })
+  numbers-told count demands some sum each =
+      (cause, sums-there, rw some (λ i. record { answer = Fails t cause (most i) (excessOf t (most i) (sum i)) count; demands = each i }))
+
+-- a sheet in hand, and the bytes that it was judged from
+module _ (bytes : List ℕ) (sheet : Sheet) (is : sheet ≡ judged bytes .sheet) (ready : Ready bytes sheet) where
+  -- what one pass found is so of the bytes
+  shown : (horizon : ℕ) (found : Tightest) → Shows (graphOf bytes sheet) (tasksOf sheet) horizon found → Shows (graph bytes) (tasks bytes) horizon found
+  shown horizon found = subst (λ (s : Sheet). Shows (graphOf bytes s) (tasksOf s) horizon found) is
+
+  -- the lines up to t, and fixed demand at t, which is overrun
+  module _ (t fixed : ℕ) (cells : List ℕ) (table : HasLines (sheet .tally .rows) (ByInterval (graphOf bytes sheet)) cells (t + 1))
+      (sum : fixed ≡ fixedSum (tasksOf sheet) t) (over : Overruns (graphOf bytes sheet) (tasksOf sheet) t) where
+    -- fixed demand is that of the bytes
+    sum-told : fixed ≡ fixedSum (tasks bytes) t
+    sum-told = sum ∙ ap (λ (s : Sheet). fixedSum (tasksOf s) t) is
+
+    -- the largest cell of the line is the demand
+    engine-told : IsDemand (graph bytes) t (engineIn sheet cells t)
+    engine-told = demand-told bytes sheet is ready t cells table (engineIn sheet cells t) refl
+
+    -- both demands together are more than t
+    pub more-than-interval : t < engineIn sheet cells t + fixed
+    more-than-interval =
+        let overrun-there : Overruns (graph bytes) (tasks bytes) t = subst (λ (s : Sheet). Overruns (graphOf bytes s) (tasksOf s) t) is over in
+        rw sum-told (overruns-by-demand (graph bytes) (tasks bytes) t (engineIn sheet cells t) engine-told .0 overrun-there)
+
+    -- what is told with the witness as it is shown is what the call promises
+    pub overrun-shown : (area area′ : List ℕ) (shown : Shown) (explained : Explained) → IsShown (witnessOf (graphOf bytes sheet) t) area shown area′
+        → ToldAt sheet cells t fixed shown explained → FailsAt bytes t area explained area′
+    overrun-shown area area′ shown explained is-shown (cause, sums, e) =
+        let engine : ℕ = engineIn sheet cells t in
+        let witness : List ℕ = witnessOf (graphOf bytes sheet) t in
+        let same : explained ≡ toldWith (tasks bytes) t cause engine shown = e ∙ ap (λ (s : Sheet). toldWith (tasksOf s) t cause engine shown) is in (
+          cause,
+          engine,
+          witness,
+          engine-told,
+          witness-told bytes sheet is ready t,
+          subst (Sums cause t engine) sum-told sums,
+          subst (λ (x : Explained). WitnessShown witness area (failing (tasks bytes) t cause engine (length witness)) (plainly (Refused 13 0)) x area′) (sym same)
+              (shown-as witness area (Rows (length witness)) TooLong (toldWith (tasks bytes) t cause engine) shown area′ is-shown),
+        )
+
+  -- the lines up to the horizon are filled
+  module _ (horizon : ℕ) (old new area : List ℕ) (filled : Filled (sheet .tally .rows) (ByInterval (graphOf bytes sheet)) old new (sheet .tally .rows * (horizon + 1)))
+      (explained : Explained) where
+    -- no interval is there
+    pub none-told : Shows (graphOf bytes sheet) (tasksOf sheet) horizon tightest-case.Nothing → explained ≡ plainly NoInterval
+        → ExplainAnswers bytes horizon old area explained new area
+    unfolding pick
+    none-told none e = (
+      lines-filled bytes sheet is ready ByInterval (horizon + 1) old new filled,
+      (holds, (λ t some within. absurd (omega (arith, none))), (rw (eq-eqb horizon 0 none) e, refl)),
+    )
+
+    -- no interval is overrun
+    pub margin-told : (margin t : ℕ) → Shows (graphOf bytes sheet) (tasksOf sheet) horizon (tightest-case.Margin margin t) → explained ≡ plainly (Holds margin t)
+        → ExplainAnswers bytes horizon old area explained new area
+    unfolding pick
+    margin-told margin t shows e =
+        let told = shown horizon (tightest-case.Margin margin t) shows in (
+          lines-filled bytes sheet is ready ByInterval (horizon + 1) old new filled,
+          (
+            holds,
+            told .0,
+            (rw (ne-eqb horizon 0 (λ none. omega (arith, none, told .1 .reached .0, told .1 .reached .1))) (t, margin, told .1, e), refl),
+          ),
+        )
+
+    -- one is overrun
+    pub overrun-told : (t fixed : ℕ) (area′ : List ℕ) → Shows (graphOf bytes sheet) (tasksOf sheet) horizon (tightest-case.Overrun t fixed)
+        → FailsAt bytes t area explained area′ → ExplainAnswers bytes horizon old area explained new area′
+    overrun-told t fixed area′ shows fails = (
+      lines-filled bytes sheet is ready ByInterval (horizon + 1) old new filled,
+      (overrun t, shown horizon (tightest-case.Overrun t fixed) shows .0, fails),
+    )

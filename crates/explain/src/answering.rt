@@ -1,0 +1,112 @@
+// What `explain` does once its sheet is accepted, its horizon is in range and its room is enough.
+use crate::Cause;
+use crate::ExplainAnswer;
+use crate::Explained;
+use crate::demands::demands_at;
+use crate::looking::Tightest;
+use crate::looking::look_over;
+use fields::values::Sheet;
+use tables::interval::demand_of;
+use tables::interval::fill_by_interval;
+use witness::Shown;
+use witness::show_witness;
+ghost use mathlib.Core.Path.{_≡_};
+ghost use Prim.Native.Nat.{_+_, _*_, _≤_, _<_};
+ghost use lib.ListN.{length};
+ghost use Rattle.meaning.specs.Demand.{longestTime};
+ghost use Rattle.meaning.specs.Fixed.{fixedSum};
+ghost use Rattle.sheet.specs.Judging.{judged};
+ghost use Rattle.sheet.specs.Meaning.{tasksOf};
+ghost use Rattle.sheet.specs.Ready.{Ready};
+ghost use Rattle.overruns.specs.Releases.{IsProper};
+ghost use Rattle.beginning.specs.Beginning.{roomFor};
+ghost use Rattle.explain.specs.Reasons.{Sums};
+ghost use Rattle.explain.specs.Calls.{plainly, ExplainAnswers};
+ghost use Rattle.explain.specs.Looking.{engineIn, ToldAt};
+
+// The whole table by interval, also behind an overrun, then one pass over its lines.
+pub(crate) fn explain_in(
+    bytes: &[u8],
+    sheet: Sheet,
+    horizon: usize,
+    cells: &mut [u32],
+    area: &mut [u8],
+) -> Explained
+    requires { ⌜ Ready (now bytes) sheet ⌝ }
+    requires { ⌜ sheet ≡ judged (now bytes) .sheet ⌝ }
+    requires { ⌜ horizon ≤ longestTime ⌝ }
+    requires { ⌜ roomFor (now bytes) (horizon + 1) ≤ length (now cells) ⌝ }
+    ensures { λ r. ⌜ ExplainAnswers (now (bytes .entry)) horizon (now (cells .entry)) (now (area .entry)) r (now (cells .exit)) (now (area .exit)) ⌝ }
+{
+    fill_by_interval(bytes, sheet, cells, horizon);
+    match look_over(sheet, cells, horizon) {
+        Tightest::Nothing => plain(ExplainAnswer::NoInterval),
+        Tightest::Margin { margin, interval } => plain(ExplainAnswer::Holds {
+            margin: margin,
+            interval: interval as u64,
+        }),
+        Tightest::Overrun { interval, fixed } => {
+            let shown = show_witness(bytes, sheet, cells, interval, area);
+            overrun_at(sheet, interval, fixed, cells, shown)
+        }
+    }
+}
+
+// The numbers of an overrun at t with its witness as it was shown, or rule 13.
+fn overrun_at(sheet: Sheet, t: usize, fixed: u64, cells: &[u32], shown: Shown) -> Explained
+    requires { ⌜ IsProper sheet ⌝ }
+    requires { ⌜ t ≤ longestTime ⌝ }
+    requires { ⌜ sheet .tally .rows * (t + 1) ≤ length (now cells) ⌝ }
+    requires { ⌜ fixed ≡ fixedSum (tasksOf sheet) t ⌝ }
+    requires { ⌜ t < engineIn sheet (now cells) t + fixed ⌝ }
+    ensures { λ r. ⌜ ToldAt sheet (now (cells .entry)) t fixed shown r ⌝ }
+{
+    let tally = sheet.tally;
+    let engine = demand_of(cells, tally.rows, t);
+    let cause = cause_of(t as u64, engine as u64, fixed);
+    match shown {
+        Shown::TooLong => plain(ExplainAnswer::Refused {
+            number: 13,
+            place: 0,
+        }),
+        Shown::Rows(count) => {
+            let excess = engine as u64 + fixed - t as u64;
+            let answer = ExplainAnswer::Fails {
+                interval: t as u64,
+                cause: cause,
+                engine: engine,
+                excess: excess,
+                count: count,
+            };
+            let demands = demands_at(sheet, t);
+            Explained {
+                answer: answer,
+                demands: demands,
+            }
+        }
+    }
+}
+
+// The cause of an overrun at t.
+fn cause_of(t: u64, engine: u64, fixed: u64) -> Cause
+    requires { ⌜ t < engine + fixed ⌝ }
+    ensures { λ r. ⌜ Sums r t engine fixed ⌝ }
+{
+    if t < engine {
+        return Cause::Engine;
+    }
+    if t < fixed {
+        return Cause::Fixed;
+    }
+    Cause::Together
+}
+
+// An answer that comes without demands of tasks.
+pub(crate) fn plain(answer: ExplainAnswer) -> Explained
+    ensures { λ r. ⌜ r ≡ plainly answer ⌝ }
+{
+    Explained {
+        answer: answer,
+        demands: [0u64; Sheet::TASKS],
+    }
+}

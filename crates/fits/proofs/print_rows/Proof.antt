@@ -1,0 +1,34 @@
+-- `print_rows` meets its contract: every row that is printed stands in the area.
+use Prim.Native.Nat.{_-_, _≤_}
+use borrow.Author.Needs.{needs}
+use native.Mathlib.Omega.{arith}
+use Rattle.fits.proofs.print_rows.Statement.{statement}
+use Rattle.fits.proofs.print_rows.Tie as tie
+
+abbrev Inv-loop : tie.InvT-loop
+Inv-loop area count i₀ t5 i = i ≤ count
+
+abbrev μ-loop : tie.MeasureT-loop
+μ-loop area count i₀ t5 i = count - i
+
+read : tie.Need-element-copy-out-print-row Inv-loop μ-loop
+read c = omega (arith, c .loop-test .taken, c .before .before .before .before .before .pre)
+
+pub print-rows-spec : {M : Type 1} → statement M
+print-rows-spec =
+    tie.close
+    (tie.spec
+    Inv-loop
+    μ-loop
+    (λ c. search needs)
+    (λ c. search needs)
+    (λ c κs. search needs)
+    (λ c. search needs)
+    read
+    (λ c κs. search needs)
+    (λ c. search needs)
+    (λ c. search needs)
+    (λ c. search needs)
+    (λ c. search needs)
+    (λ c κs. search needs)
+    (λ c. search needs))
