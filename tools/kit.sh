@@ -5,9 +5,9 @@ say() {
     printf '%s: %s\n' "$name" "$1" >&2
 }
 
-# What cannot be done is one line on standard error, with exit status 2.
+# What cannot be done is one line on standard error, with exit status 2, also where that line cannot be written.
 stop() {
-    say "$1"
+    say "$1" || true
     exit 2
 }
 

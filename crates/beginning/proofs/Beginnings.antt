@@ -13,7 +13,7 @@ use Rattle.sheet.specs.Judging.{judged}
 use Rattle.sheet.specs.declared.Answer.{Answer}
 use Rattle.sheet.specs.declared.Answer.the-variants.{Accepted, Refused}
 use Rattle.sheet.specs.declared.Judged.{Judged}
-use Rattle.beginning.specs.Beginning.{Begins, badAmount, roomFor, callRules, Begun}
+use Rattle.beginning.specs.Beginning.{Begins, badAmount, roomFor, callRules, intervalRules, Begun}
 
 accepted-not-refused : (number place : ℕ) → Accepted ≡ Refused number place → ⊥
 accepted-not-refused number place e = let z : _≡_ {A = ℕ} 0 1 = cc in omega arith
@@ -63,6 +63,12 @@ module _ (answer : Answer) (rules : List Rule) (R : ℕ → ℕ → Type 0) (A :
 
   pub comes-to-answer : Begins answer rules R A → A
   comes-to-answer = subst (λ (X : Type 0). X) (promises-answer answer rules R A accepted kept)
+
+-- where two rooms are both enough, the rules of a call with an interval are the same
+pub enough-alike : (bytes : List ℕ) (t room other : ℕ) → roomFor bytes (t + 1) ≤ room → roomFor bytes (t + 1) ≤ other
+    → intervalRules bytes t other ≡ intervalRules bytes t room
+enough-alike bytes t room other enough enough′ =
+    ap (λ (tooFew : Bool). 11 when ltb longestTime t ∷ 12 when tooFew ∷ []) (le-ltb other _ enough′ ∙ sym (le-ltb room _ enough))
 
 module _ (amount : ℕ) where
   -- an amount beyond the longest time and one takes no line

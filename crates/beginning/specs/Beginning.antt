@@ -1,15 +1,14 @@
--- What every call has in common: the graph, the tasks and the rows of its bytes, the cells that it uses, how it begins, and how it shows a witness.
+-- What every call has in common: the graph, the tasks and the rows of its bytes, the cells that it uses, and how it begins.
 use Prim.Native.Nat.{ℕ, _+_, _*_}
 use mathlib.Core.Path.{_≡_}
 use mathlib.Core.Bool.{Bool}
-use mathlib.Core.List.{List, [], _∷_, _++_}
+use mathlib.Core.List.{List, [], _∷_}
 use lib.Dec.{ltb, eqb}
-use lib.ListN.{length, drop}
 use Rattle.meaning.specs.Graph.{Graph}
 use Rattle.meaning.specs.Demand.{longestTime}
 use Rattle.meaning.specs.Cells.{ByInterval, ByAmount, Filled}
 use Rattle.meaning.specs.Fixed.{Task}
-use Rattle.fields.specs.Deciding.{Rule, _when_, _or_, pick, judgedBy}
+use Rattle.fields.specs.Deciding.{Rule, _when_, _or_, judgedBy}
 use Rattle.sheet.specs.Judging.{judged}
 use Rattle.sheet.specs.Meaning.{graphOf, tasksOf}
 use Rattle.sheet.specs.declared.Answer.{Answer}
@@ -64,10 +63,3 @@ Begun bytes rules begun =
     Begins (judged bytes .answer) rules
     (λ number place. begun .answer ≡ sheet-case.Refused number place)
     (begun ≡ judged bytes)
-
--- a witness in a lent area: where its rows fit, `fits` is answered, they stand at the front of the area and the bytes after them are kept; where they do not, rule 13 is broken, `tooLong` is answered and the area is untouched
-abbrev pub WitnessShown : {A : Type 0} → List ℕ → List ℕ → A → A → A → List ℕ → Type 0
-WitnessShown witness area fits tooLong answer area′ =
-    pick (ltb (length area) (length witness))
-    ((answer ≡ tooLong) × (area′ ≡ area))
-    ((answer ≡ fits) × (area′ ≡ witness ++ drop (length witness) area))

@@ -12,16 +12,16 @@ use Rattle.meaning.specs.Demand.{IsDemand}
 use Rattle.meaning.specs.Verdict.{Verdict, IsVerdict}
 use Rattle.meaning.proofs.Unique.{demand-unique}
 use Rattle.sheet.specs.Judging.{judged}
-use Rattle.sheet.specs.Meaning.{graphOf}
 use Rattle.sheet.specs.Proper.{Bytes}
 use Rattle.sheet.specs.declared.Answer.the-variants.{Accepted}
-use Rattle.tables.proofs.Lines.{filled-lines, line-demand}
+use Rattle.tables.specs.Lines.{demandIn}
+use Rattle.tables.proofs.Lines.{filled-lines, sheet-demand}
 use Rattle.beginning.specs.Beginning.{graph, tasks, rows, FilledByInterval, intervalRules}
 use Rattle.desk.specs.Calls.{VerdictAnswers, VerdictCall, VerdictByIntervalCall, verdictAnswer}
 use Rattle.desk.specs.declared.VerdictAnswer.{VerdictAnswer}
 use Rattle.beginning.proofs.Beginnings.{comes-to-answer}
 use Rattle.sheet.proofs.AcceptedReady.{accepted-ready}
-use Rattle.demand.specs.Rising.{IsHorizon, demandIn, Rises}
+use Rattle.demand.specs.Rising.{IsHorizon, Rises}
 
 module _ (bytes : List ℕ) (fit : Bytes bytes) (accepted : judged bytes .answer ≡ Accepted) (horizon : ℕ) (old new : List ℕ) (answer : VerdictAnswer)
     (is : IsHorizon (length old) (rows bytes) horizon) (call : VerdictByIntervalCall bytes horizon old answer new) where
@@ -32,9 +32,8 @@ module _ (bytes : List ℕ) (fit : Bytes bytes) (accepted : judged bytes .answer
       accepted (le-ltb _ _ (is .in-range), (le-ltb _ _ (is .fits), tt)) call
 
   pub demand-right : (t : ℕ) → t ≤ horizon → IsDemand (graph bytes) t (demandIn (rows bytes) new t)
-  unfolding graphOf
   demand-right t h =
-      line-demand (graph bytes) (accepted-ready bytes fit accepted .sound) new (horizon + 1)
+      sheet-demand bytes (judged bytes .sheet) (accepted-ready bytes fit accepted) new (horizon + 1)
       (filled-lines (rows bytes) (ByInterval (graph bytes)) (horizon + 1) old new (is .fits) (answered .0)) t (omega arith)
 
   pub step-right : (t before after : ℕ) → t ≤ horizon → IsDemand (graph bytes) (t - 1) before → IsDemand (graph bytes) t after

@@ -1,18 +1,14 @@
 -- What the program prints of a table by interval: up to which horizon, and at which intervals.
 use Prim.Native.Nat.{ℕ, _+_, _-_, _*_, _≤_, _<_}
 use mathlib.Core.List.{List}
-use Rattle.meaning.specs.Computed.{cellAt, maxBelow}
 use Rattle.meaning.specs.Demand.{longestTime}
+use Rattle.tables.specs.Lines.{demandIn}
 
 -- the largest horizon whose lines, one for each interval from 0 on and a cell a row, fit a number of cells
 pub record IsHorizon (cells rows horizon : ℕ) : Type 0 where
   pub in-range : horizon ≤ longestTime
   pub fits : rows * (horizon + 1) ≤ cells
   pub largest : (other : ℕ) → other ≤ longestTime → rows * (other + 1) ≤ cells → other ≤ horizon
-
--- demand at an interval as the cells have it: the largest of its line
-abbrev pub demandIn : ℕ → List ℕ → ℕ → ℕ
-demandIn rows cells interval = maxBelow rows (cellAt rows cells interval)
 
 -- demand rises at an interval: it is above that of the interval before
 abbrev pub Rises : ℕ → List ℕ → ℕ → Type 0

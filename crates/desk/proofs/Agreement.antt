@@ -4,24 +4,25 @@ use native.Mathlib.Omega.{arith}
 use mathlib.Core.Path.{_≡_, refl, sym, ap, _∙_, subst}
 use mathlib.Core.Logic.{inl, inr, _↔_, Iff·trans}
 use mathlib.Core.Bool.{Bool, true, false}
-use mathlib.Core.List.{List, [], _∷_, _++_}
-use lib.Dec.{ltb, eqb}
-use lib.ListN.{length, drop}
+use mathlib.Core.List.{List}
+use lib.Dec.{eqb}
+use lib.ListN.{length}
 use borrow.Author.Tests.{le-ltb, eqb-true, eqb-false}
 use Rattle.meaning.specs.Demand.{longestTime, noTime, IsDemand, IsShortest}
 use Rattle.meaning.proofs.Agreement.{agree, none-enough}
 use Rattle.meaning.proofs.Verdicts.{verdict-unique}
-use Rattle.fields.specs.Deciding.{Rule, _when_, pick}
+use Rattle.fields.specs.Deciding.{Rule, pick}
 use Rattle.sheet.specs.Judging.{judged}
 use Rattle.sheet.specs.declared.Answer.the-variants.{Accepted}
 use Rattle.beginning.specs.Beginning.{graph, tasks, roomFor, FilledByInterval, FilledByAmount, intervalRules, amountRules, Begins}
-use Rattle.desk.specs.Calls.{DemandRefuses, DemandAnswers, DemandCall, ShortestGives, ShortestAnswers, ShortestCall, VerdictRefuses, VerdictAnswers, VerdictCall, VerdictByIntervalCall, VerdictByAmountCall, verdictAnswer}
+use Rattle.desk.specs.Calls.{DemandRefuses, DemandGives, DemandAnswers, DemandCall, ShortestGives, ShortestAnswers, ShortestCall, VerdictRefuses, VerdictAnswers, VerdictCall, VerdictByIntervalCall, VerdictByAmountCall, verdictAnswer}
 use Rattle.desk.specs.Agreement.{WithRoom, DemandEitherWay, TellsBy, CallsAgree}
 use Rattle.desk.specs.declared.DemandAnswer.the-variants as demand-case
 use Rattle.desk.specs.declared.ShortestAnswer.{ShortestAnswer}
 use Rattle.desk.specs.declared.ShortestAnswer.the-variants.{Found, Refused}
 use Rattle.desk.specs.declared.VerdictAnswer.{VerdictAnswer}
-use Rattle.beginning.proofs.Beginnings.{begins-alike, came-to-answer, comes-to-answer, amount-in-range}
+use Rattle.beginning.proofs.Beginnings.{begins-alike, came-to-answer, comes-to-answer, enough-alike, amount-in-range}
+use Rattle.beginning.proofs.Showing.{shown-case}
 
 pub found-not-refused : (amount count number place : ℕ) → demand-case.Found amount count ≡ demand-case.Refused number place → ⊥
 found-not-refused amount count number place e = let z : _≡_ {A = ℕ} 0 1 = cc in omega arith
@@ -31,17 +32,14 @@ time-not-refused time number place e = let z : _≡_ {A = ℕ} 0 1 = cc in omega
 
 -- an amount that `demand` found is the demand
 module _ (bytes : List ℕ) (t : ℕ) (cells area : List ℕ) (amount count : ℕ) (cells′ area′ : List ℕ) where
-  given-demand : (most : ℕ) (witness : List ℕ) (test : Bool) → IsDemand (graph bytes) t most
-      → pick test
-      ((demand-case.Found amount count ≡ demand-case.Refused 13 0) × (area′ ≡ area))
-      ((demand-case.Found amount count ≡ demand-case.Found most (length witness)) × (area′ ≡ witness ++ drop (length witness) area))
+  given-demand : (most : ℕ) (witness : List ℕ) → IsDemand (graph bytes) t most → DemandGives area (demand-case.Found amount count) area′ most witness
       → IsDemand (graph bytes) t amount
-  unfolding pick
-  given-demand most witness true is gives = absurd (found-not-refused amount count 13 0 (gives .0))
-  given-demand most witness false is gives =
-      let told : demand-case.Found amount count ≡ demand-case.Found most (length witness) = gives .0 in
+  given-demand most witness is =
+      shown-case witness area _ _ (IsDemand (graph bytes) t amount) (demand-case.Found amount count) area′
+      (λ long told same. absurd (found-not-refused amount count 13 0 told))
+      (λ enough (told : demand-case.Found amount count ≡ demand-case.Found most (length witness)) written.
       let same : most ≡ amount = cc in
-      subst (IsDemand (graph bytes) t) same is
+      subst (IsDemand (graph bytes) t) same is)
 
   found-demand : DemandCall bytes t cells area (demand-case.Found amount count) cells′ area′ → IsDemand (graph bytes) t amount
   unfolding DemandCall
@@ -51,7 +49,7 @@ module _ (bytes : List ℕ) (t : ℕ) (cells area : List ℕ) (amount count : �
       call .0)
     where
       given : DemandAnswers bytes t cells area (demand-case.Found amount count) cells′ area′ → IsDemand (graph bytes) t amount
-      given (filled, (most, witness, is, first, gives)) = given-demand most witness (ltb (length area) (length witness)) is gives
+      given (filled, (most, witness, is, first, gives)) = given-demand most witness is gives
 
 -- what `shortest` gives for a time: 14 exactly for `noTime`, and else the time, so that it tells the same as the time itself up to the longest time
 module _ (answer : ShortestAnswer) (time : ℕ) where
@@ -82,10 +80,8 @@ module _ (bytes : List ℕ) (horizon : ℕ) (cells cells′ room room′ : List 
       (VerdictRefuses cells x cells′) (VerdictRefuses room y room′) _ _ _
       (λ number place (p : VerdictRefuses cells x cells′ number place) (q : VerdictRefuses room y room′ number place). p .0 ∙ sym (q .0))
       same-verdict first
-      (subst (λ (rules : List Rule). Begins (judged bytes .answer) rules (VerdictRefuses room y room′) (VerdictAnswers FilledByAmount bytes horizon room y room′)) same-rules second)
-    where
-      same-rules : intervalRules bytes horizon (length room) ≡ intervalRules bytes horizon (length cells)
-      same-rules = ap (λ (tooFew : Bool). 11 when ltb longestTime horizon ∷ 12 when tooFew ∷ []) (le-ltb (length room) _ enough′ ∙ sym (le-ltb (length cells) _ enough))
+      (subst (λ (rules : List Rule). Begins (judged bytes .answer) rules (VerdictRefuses room y room′) (VerdictAnswers FilledByAmount bytes horizon room y room′))
+      (enough-alike bytes horizon (length cells) (length room) enough enough′) second)
 
 module _ (bytes : List ℕ) (accepted : judged bytes .answer ≡ Accepted) where
   shortest-answered : (b : ℕ) (answer : ShortestAnswer) → 1 ≤ b → b ≤ longestTime + 1 → WithRoom bytes b (ShortestCall bytes b) answer

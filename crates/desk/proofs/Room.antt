@@ -1,12 +1,11 @@
 -- What a caller can count on when lending: an area of as many bytes as the interval has ticks takes every witness.
 use Prim.Native.Nat.{ℕ, _+_, _≤_}
 use native.Mathlib.Omega.{arith}
-use mathlib.Core.Path.{_≡_, refl, sym, _∙_, subst}
+use mathlib.Core.Path.{_≡_, refl, sym, _∙_}
 use mathlib.Core.Bool.{Bool, true, false}
-use mathlib.Core.List.{List, [], _∷_, _++_}
+use mathlib.Core.List.{List, [], _∷_}
 use lib.Dec.{ltb}
-use lib.ListN.{length, drop}
-use borrow.Author.Tests.{le-ltb}
+use lib.ListN.{length}
 use Rattle.meaning.specs.Demand.{longestTime}
 use Rattle.meaning.proofs.Bounds.{witness-at-most}
 use Rattle.fields.specs.Deciding.{_when_, pick}
@@ -21,6 +20,7 @@ use Rattle.beginning.specs.Beginning.{graph, roomFor, Begins}
 use Rattle.desk.specs.Calls.{DemandRefuses, DemandAnswers, DemandCall}
 use Rattle.desk.specs.declared.DemandAnswer as demand
 use Rattle.desk.specs.declared.DemandAnswer.the-variants as demand-case
+use Rattle.beginning.proofs.Showing.{shown-case}
 use Rattle.desk.proofs.Agreement.{found-not-refused}
 
 module _ (bytes : List ℕ) (are : Bytes bytes) (t : ℕ) (cells area : List ℕ) (answer : demand.DemandAnswer) (cells′ area′ : List ℕ) (enough : t ≤ length area) (told : answer ≡ demand-case.Refused 13 0) where
@@ -33,16 +33,12 @@ module _ (bytes : List ℕ) (are : Bytes bytes) (t : ℕ) (cells area : List ℕ
 
   -- a witness has at most a row for each tick, so it is not 13 where the call comes to its answer
   witness-fits : judged bytes .answer ≡ sheet-case.Accepted → DemandAnswers bytes t cells area answer cells′ area′ → ⊥
-  unfolding pick
   witness-fits accepted (filled, (amount, witness, is, first, gives)) =
       let short : length witness ≤ t = witness-at-most (graph bytes) (proper-sound bytes (judged bytes .sheet) (accepted-proper bytes are accepted)) t witness first in
-      let found =
-      subst
-      (λ (test : Bool).
-      pick test ((answer ≡ demand-case.Refused 13 0) × (area′ ≡ area)) ((answer ≡ demand-case.Found amount (length witness)) × (area′ ≡ witness ++ drop (length witness) area)))
-      (le-ltb (length area) (length witness) (omega arith))
-      gives in
-      found-not-refused amount (length witness) 13 0 (sym (found .0) ∙ told)
+      shown-case witness area _ _ ⊥ answer area′
+      (λ long refused same. omega arith)
+      (λ fits found written. found-not-refused amount (length witness) 13 0 (sym found ∙ told))
+      gives
 
   pub area-suffices : DemandCall bytes t cells area answer cells′ area′ → ⊥
   unfolding DemandCall pick

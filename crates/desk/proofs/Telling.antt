@@ -15,7 +15,7 @@ use Rattle.meaning.specs.Demand.{noTime, IsDemand, IsWitness, IsShortest}
 use Rattle.meaning.specs.Cells.{ByInterval, ByAmount, Filled}
 use Rattle.meaning.specs.Fixed.{fixedSum}
 use Rattle.meaning.specs.Verdict.{IsVerdict}
-use Rattle.meaning.specs.Computed.{cellAt, cellFor, maxBelow, minBelow, witnessOf}
+use Rattle.meaning.specs.Computed.{cellFor, minBelow, witnessOf}
 use Rattle.meaning.proofs.Differences.{sub-is64}
 use Rattle.meaning.proofs.Existence.{witness-of}
 use Rattle.meaning.proofs.Margins.{difference, margin-sub}
@@ -24,12 +24,12 @@ use Rattle.sheet.specs.Judging.{judged}
 use Rattle.sheet.specs.Meaning.{graphOf, tasksOf}
 use Rattle.fields.specs.declared.values.Sheet.{Sheet}
 use Rattle.sheet.specs.Ready.{Ready}
-use Rattle.tables.specs.Lines.{HasLines}
+use Rattle.tables.specs.Lines.{HasLines, demandIn}
 use Rattle.tables.specs.WhichTable.{tableOf}
 use Rattle.tables.specs.declared.Table.{Table}
 use Rattle.overruns.specs.Sweeping.{IsSwept, verdictOf}
 use Rattle.overruns.specs.declared.sweep.Swept.{Swept}
-use Rattle.tables.proofs.Lines.{filled-lines, line-demand}
+use Rattle.tables.proofs.Lines.{filled-lines, sheet-demand}
 use Rattle.tables.proofs.Amounts.{line-shortest}
 use Rattle.beginning.specs.Beginning.{graph, tasks, rows, roomFor}
 use Rattle.beginning.proofs.Showing.{shown-as}
@@ -70,11 +70,10 @@ module _ (bytes : List ℕ) (sheet : Sheet) (is : sheet ≡ judged bytes .sheet)
 
   -- the largest cell of a line by interval is the demand
   pub demand-told : (t : ℕ) (cells : List ℕ) → HasLines (sheet .tally .rows) (ByInterval (graphOf bytes sheet)) cells (t + 1)
-      → (amount : ℕ) → amount ≡ maxBelow (sheet .tally .rows) (cellAt (sheet .tally .rows) cells t) → IsDemand (graph bytes) t amount
-  unfolding graphOf
+      → (amount : ℕ) → amount ≡ demandIn (sheet .tally .rows) cells t → IsDemand (graph bytes) t amount
   demand-told t cells table amount e =
       subst (λ (s : Sheet). IsDemand (graphOf bytes s) t amount) is
-      (subst (IsDemand (graphOf bytes sheet) t) (sym e) (line-demand (graphOf bytes sheet) (ready .sound) cells (t + 1) table t (omega arith)))
+      (subst (IsDemand (graphOf bytes sheet) t) (sym e) (sheet-demand bytes sheet ready cells (t + 1) table t (omega arith)))
 
   -- the witness that is written is that of the demand
   pub witness-told : (t : ℕ) → IsWitness (graph bytes) t (witnessOf (graphOf bytes sheet) t)
@@ -88,7 +87,7 @@ module _ (bytes : List ℕ) (sheet : Sheet) (is : sheet ≡ judged bytes .sheet)
 
     -- a margin read off the last line and fixed demand
     pub margin-told : (amount fixed : ℕ) (m : ℤ)
-        → amount ≡ maxBelow (sheet .tally .rows) (cellAt (sheet .tally .rows) new t) → fixed ≡ fixedSum (tasksOf sheet) t → m ≡ pos t -ℤ pos (amount + fixed)
+        → amount ≡ demandIn (sheet .tally .rows) new t → fixed ≡ fixedSum (tasksOf sheet) t → m ≡ pos t -ℤ pos (amount + fixed)
         → MarginAnswers bytes t old (margin-case.Found m) new
     margin-told amount fixed m most sum e =
         let same-sum : fixed ≡ fixedSum (tasks bytes) t = sum ∙ ap (λ (s : Sheet). fixedSum (tasksOf s) t) is in (
@@ -106,7 +105,7 @@ module _ (bytes : List ℕ) (sheet : Sheet) (is : sheet ≡ judged bytes .sheet)
 
     -- a demand read off the last line, with its witness as it is shown
     pub demand-shown : (amount : ℕ) (area area′ : List ℕ) (shown : Shown)
-        → amount ≡ maxBelow (sheet .tally .rows) (cellAt (sheet .tally .rows) new t) → IsShown (witnessOf (graphOf bytes sheet) t) area shown area′
+        → amount ≡ demandIn (sheet .tally .rows) new t → IsShown (witnessOf (graphOf bytes sheet) t) area shown area′
         → DemandAnswers bytes t old area (demandAs amount shown) new area′
     demand-shown amount area area′ shown most is-shown =
         let witness : List ℕ = witnessOf (graphOf bytes sheet) t in (

@@ -9,7 +9,8 @@ use Rattle.meaning.specs.Demand.{noTime, IsDemand, IsWitness, IsShortest}
 use Rattle.meaning.specs.Verdict.{Verdict, holds, overrun, IsMargin, IsVerdict}
 use Rattle.fields.specs.Deciding.{pick}
 use Rattle.sheet.specs.Judging.{judged}
-use Rattle.beginning.specs.Beginning.{graph, tasks, FilledByInterval, FilledByAmount, intervalRules, amountRules, Begins, WitnessShown}
+use Rattle.beginning.specs.Beginning.{graph, tasks, FilledByInterval, FilledByAmount, intervalRules, amountRules, Begins}
+use Rattle.beginning.specs.Showing.{WitnessShown}
 use Rattle.desk.specs.declared.DemandAnswer as demand
 use Rattle.desk.specs.declared.DemandAnswer.the-variants as demand-case
 use Rattle.desk.specs.declared.MarginAnswer as margin

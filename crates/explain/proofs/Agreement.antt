@@ -2,26 +2,24 @@
 use Prim.Native.Nat.{ℕ, _+_, _≤_}
 use mathlib.Core.Path.{_≡_, refl, sym, ap, _∙_, subst}
 use mathlib.Core.Logic.{inl, inr}
-use mathlib.Core.Bool.{Bool, true, false}
-use mathlib.Core.List.{List, [], _∷_, _++_}
-use lib.Dec.{ltb, eqb}
+use mathlib.Core.List.{List}
+use lib.Dec.{eqb}
 use lib.IntN.{pos}
-use lib.ListN.{length, drop}
-use borrow.Author.Tests.{le-ltb}
-use Rattle.meaning.specs.Demand.{longestTime}
+use lib.ListN.{length}
 use Rattle.meaning.specs.Verdict.{Verdict, holds, overrun}
 use Rattle.meaning.proofs.Verdicts.{verdict-unique}
-use Rattle.fields.specs.Deciding.{Rule, _when_, pick}
+use Rattle.fields.specs.Deciding.{Rule}
+use Rattle.fields.proofs.Deciding.{pick-case}
 use Rattle.sheet.specs.Judging.{judged}
-use Rattle.beginning.specs.Beginning.{graph, tasks, roomFor, FilledByInterval, intervalRules, Begins, WitnessShown}
-use Rattle.beginning.proofs.Beginnings.{begins-alike}
+use Rattle.beginning.specs.Beginning.{graph, tasks, roomFor, FilledByInterval, intervalRules, Begins}
+use Rattle.beginning.proofs.Beginnings.{begins-alike, enough-alike}
+use Rattle.beginning.proofs.Showing.{shown-case}
 use Rattle.desk.specs.Calls.{VerdictRefuses, VerdictAnswers, VerdictCall, VerdictByIntervalCall, verdictAnswer}
 use Rattle.desk.proofs.Determined.{by-interval-unique}
 use Rattle.desk.specs.declared.VerdictAnswer.{VerdictAnswer}
 use Rattle.explain.specs.Reasons.{IsSmallestMargin}
-use Rattle.explain.specs.Calls.{plainly, failing, ExplainRefuses, Explains, ExplainAnswers, ExplainCall}
+use Rattle.explain.specs.Calls.{withoutDemands, failing, ExplainRefuses, FailsAt, HoldsTo, Explains, ExplainAnswers, ExplainCall}
 use Rattle.explain.specs.Agreement.{SameVerdict}
-use Rattle.explain.specs.declared.Cause.{Cause}
 use Rattle.explain.specs.declared.ExplainAnswer.the-variants.{Holds, NoInterval, Refused}
 use Rattle.explain.specs.declared.Explained.{Explained}
 
@@ -30,32 +28,25 @@ module _ (bytes : List ℕ) (horizon : ℕ) (area area′ : List ℕ) (x : Expla
   same-by : (y : VerdictAnswer) (e : Explained) → x ≡ e → SameVerdict (e .answer) y → SameVerdict (x .answer) y
   same-by y e is = subst (λ (z : Explained). SameVerdict (z .answer) y) (sym is)
 
-  tells-holds : (test : Bool)
-      → pick test (x ≡ plainly NoInterval)
-      ((t : ℕ) × (margin : ℕ) × IsSmallestMargin (graph bytes) (tasks bytes) horizon t (pos margin) × (x ≡ plainly (Holds margin t)))
-      → SameVerdict (x .answer) (verdictAnswer holds)
-  unfolding pick
-  tells-holds true e = same-by (verdictAnswer holds) (plainly NoInterval) e refl
-  tells-holds false (t, margin, smallest, e) = same-by (verdictAnswer holds) (plainly (Holds margin t)) e refl
+  -- whether there is an interval or none, the verdict holds
+  tells-holds : HoldsTo bytes horizon x → SameVerdict (x .answer) (verdictAnswer holds)
+  tells-holds =
+      pick-case (eqb horizon 0) _ _ (SameVerdict (x .answer) (verdictAnswer holds))
+      (λ none (e : x ≡ withoutDemands NoInterval). same-by (verdictAnswer holds) (withoutDemands NoInterval) e refl)
+      (λ some (p : (t : ℕ) × (margin : ℕ) × IsSmallestMargin (graph bytes) (tasks bytes) horizon t (pos margin) × (x ≡ withoutDemands (Holds margin t))).
+      same-by (verdictAnswer holds) (withoutDemands (Holds (p .1) (p .0))) (p .3) refl)
 
   -- however the witness is shown, the verdict is that overrun
-  tells-overrun : (t : ℕ) (cause : Cause) (engine : ℕ) (witness : List ℕ)
-      → WitnessShown witness area (failing (tasks bytes) t cause engine (length witness)) (plainly (Refused 13 0)) x area′
-      → SameVerdict (x .answer) (verdictAnswer (overrun t))
-  unfolding pick
-  tells-overrun t cause engine witness = go (ltb (length area) (length witness))
-    where
-      go : (test : Bool)
-          → pick test
-          ((x ≡ plainly (Refused 13 0)) × (area′ ≡ area))
-          ((x ≡ failing (tasks bytes) t cause engine (length witness)) × (area′ ≡ witness ++ drop (length witness) area))
-          → SameVerdict (x .answer) (verdictAnswer (overrun t))
-      go true e = same-by (verdictAnswer (overrun t)) (plainly (Refused 13 0)) (e .0) (inr (refl, refl, (t, refl)))
-      go false e = same-by (verdictAnswer (overrun t)) (failing (tasks bytes) t cause engine (length witness)) (e .0) refl
+  tells-overrun : (t : ℕ) → FailsAt bytes t area x area′ → SameVerdict (x .answer) (verdictAnswer (overrun t))
+  tells-overrun t (cause, engine, witness, demand, first, sums, told) =
+      shown-case witness area (failing (tasks bytes) t cause engine (length witness)) (withoutDemands (Refused 13 0)) _ x area′
+      (λ long e same. same-by (verdictAnswer (overrun t)) (withoutDemands (Refused 13 0)) e (inr (refl, refl, (t, refl))))
+      (λ enough e written. same-by (verdictAnswer (overrun t)) (failing (tasks bytes) t cause engine (length witness)) e refl)
+      told
 
   tells : (v : Verdict) → Explains bytes horizon area v x area′ → SameVerdict (x .answer) (verdictAnswer v)
-  tells holds says = tells-holds (eqb horizon 0) (says .0)
-  tells (overrun t) (cause, engine, witness, demand, first, sums, told) = tells-overrun t cause engine witness told
+  tells holds says = tells-holds (says .0)
+  tells (overrun t) says = tells-overrun t says
 
 -- for any bytes and any horizon, by either table, where each is lent cells enough
 module _ (FilledBy : List ℕ → ℕ → List ℕ → List ℕ → Type 0) (bytes : List ℕ) (horizon : ℕ)
@@ -72,12 +63,10 @@ module _ (FilledBy : List ℕ → ℕ → List ℕ → List ℕ → Type 0) (byt
       begins-alike (judged bytes .answer) (intervalRules bytes horizon (length cells))
       (ExplainRefuses cells area x cells′ area′) (VerdictRefuses room y room′) _ _ _
       (λ number place (p : ExplainRefuses cells area x cells′ area′ number place) (q : VerdictRefuses room y room′ number place).
-      same-by bytes horizon area area′ x y (plainly (Refused number place)) (p .0) (inl (q .0)))
+      same-by bytes horizon area area′ x y (withoutDemands (Refused number place)) (p .0) (inl (q .0)))
       told first
-      (subst (λ (rules : List Rule). Begins (judged bytes .answer) rules (VerdictRefuses room y room′) (VerdictAnswers FilledBy bytes horizon room y room′)) same-rules second)
-    where
-      same-rules : intervalRules bytes horizon (length room) ≡ intervalRules bytes horizon (length cells)
-      same-rules = ap (λ (tooFew : Bool). 11 when ltb longestTime horizon ∷ 12 when tooFew ∷ []) (le-ltb (length room) _ enough′ ∙ sym (le-ltb (length cells) _ enough))
+      (subst (λ (rules : List Rule). Begins (judged bytes .answer) rules (VerdictRefuses room y room′) (VerdictAnswers FilledBy bytes horizon room y room′))
+      (enough-alike bytes horizon (length cells) (length room) enough enough′) second)
 
 -- the cells after both calls are the same, for any cells and also where either refuses
 module _ (bytes : List ℕ) (horizon : ℕ) (cells area cells₁ cells₂ area′ : List ℕ) (x : Explained) (y : VerdictAnswer) where

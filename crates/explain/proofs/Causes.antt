@@ -1,15 +1,17 @@
--- The three causes exclude each other and are together an overrun, and the excess is the margin with the other sign.
+-- The three causes exclude each other and are together an overrun; the excess is the margin with the other sign; and the engine alone is the cause only where a job is longer than its deadline.
 use mathlib.Core.Path.{_≡_, refl, _∙_}
 use mathlib.Core.Logic.{⊎-elim}
-use mathlib.Core.List.{List}
+use mathlib.Core.List.{List, [], _∷_}
 use Prim.Native.Nat.{ℕ, suc, _+_, _-_, _<_}
 use native.Mathlib.Omega.{arith}
 use lib.IntN.{ℤ, pos, negℤ, subℕ}
 use borrow.Author.Tests.{lt-ltb}
-use Rattle.meaning.specs.Graph.{Graph}
+use Rattle.meaning.specs.Graph.{Graph, Sound}
+use Rattle.meaning.specs.Sequence.{AllowedFrom, endFrom, amountFrom, Allowed, endTime, amount}
 use Rattle.meaning.specs.Demand.{IsDemand}
 use Rattle.meaning.specs.Fixed.{Task, fixedSum}
 use Rattle.meaning.specs.Verdict.{IsMargin, Overruns}
+use Rattle.meaning.proofs.Sequences.{head-in}
 use Rattle.meaning.proofs.Margins.{margin-sub, margin-unique, overruns-by-demand}
 use Rattle.meaning.proofs.Tests.{lt-or}
 use Rattle.meaning.proofs.Unique.{demand-unique}
@@ -45,7 +47,7 @@ some-sums t engine fixed more =
 
 module _ (g : Graph) (tasks : List Task) (t : ℕ) where
   -- there is one cause
-  pub cause-unique : (a b : Cause) → IsCause g tasks t a → IsCause g tasks t b → a ≡ b
+  cause-unique : (a b : Cause) → IsCause g tasks t a → IsCause g tasks t b → a ≡ b
   cause-unique a b (engine, demand, sums) (engine′, demand′, sums′) =
       let same : engine′ ≡ engine = demand-unique g t engine′ engine demand′ demand in
       sums-exclude a b t engine (fixedSum tasks t) sums (rw same at sums′)
@@ -73,3 +75,29 @@ module _ (g : Graph) (tasks : List Task) (t : ℕ) where
       below t sum l =
           let some : sum - t ≡ suc (sum - suc t) = omega arith in
           rw (lt-ltb t sum l, some) refl
+
+-- a row whose job is longer than its deadline
+abbrev pub LongJob : Graph → Type 0
+LongJob g = (k : ℕ) × (k < g .rows) × (g .deadline k < g .length k)
+
+module _ (g : Graph) (sound : Sound g) where
+  -- a sequence with more work than time has one: gaps are no shorter than deadlines, so jobs that fit one by one fit in a row
+  long-job-in : (k : ℕ) (rest : List ℕ) → AllowedFrom g k rest → endFrom g k rest < amountFrom g k rest → LongJob g
+  long-job-in k [] allowed more = (k, allowed, more)
+  long-job-in k (j ∷ rest) (inside, follows, allowed) more =
+      ⊎-elim
+      (λ long. (k, inside, long))
+      (λ fits. long-job-in j rest allowed (omega (arith, sound .gap-at-least-deadline k j inside (head-in g j rest allowed) follows)))
+      (lt-or (g .deadline k) (g .length k))
+
+  long-job-of : (w : List ℕ) → Allowed g w → endTime g w < amount g w → LongJob g
+  long-job-of [] allowed more = absurd allowed
+  long-job-of (k ∷ rest) allowed more = long-job-in k rest allowed more
+
+  -- so the engine alone is the cause only where some row's job is longer than its deadline
+  pub engine-alone-long-job : (tasks : List Task) (t : ℕ) → IsCause g tasks t Engine → LongJob g
+  engine-alone-long-job tasks t (engine, demand, more) =
+      ⊎-elim
+      (λ attained. long-job-of (attained .0) (attained .1 .0) (omega (arith, attained .1 .1, attained .2, more)))
+      (λ none. absurd (omega (arith, none .0, more)))
+      (demand .reached)

@@ -11,12 +11,13 @@ use Rattle.meaning.proofs.Unique.{demand-unique, witness-unique}
 use Rattle.meaning.proofs.Verdicts.{verdict-unique}
 use Rattle.fields.proofs.Deciding.{pick-alike}
 use Rattle.sheet.specs.Judging.{judged}
-use Rattle.beginning.specs.Beginning.{graph, tasks, intervalRules, WitnessShown}
+use Rattle.beginning.specs.Beginning.{graph, tasks, intervalRules}
+use Rattle.beginning.specs.Showing.{WitnessShown}
 use Rattle.beginning.proofs.Beginnings.{begins-alike}
 use Rattle.beginning.proofs.Showing.{shown-alike}
 use Rattle.desk.proofs.Determined.{by-interval-unique}
 use Rattle.explain.specs.Reasons.{Sums, IsSmallestMargin}
-use Rattle.explain.specs.Calls.{plainly, failing, ExplainRefuses, FailsAt, HoldsTo, Explains, ExplainAnswers, ExplainCall}
+use Rattle.explain.specs.Calls.{withoutDemands, failing, ExplainRefuses, FailsAt, HoldsTo, Explains, ExplainAnswers, ExplainCall}
 use Rattle.explain.specs.declared.Cause.{Cause}
 use Rattle.explain.specs.declared.ExplainAnswer.the-variants.{Holds, NoInterval, Refused}
 use Rattle.explain.specs.declared.Explained.{Explained}
@@ -26,7 +27,7 @@ use Rattle.explain.proofs.SmallestMargins.{smallest-unique}
 module _ (bytes : List ℕ) (horizon : ℕ) (cells area : List ℕ) (x y : Explained) (cells₁ cells₂ area₁ area₂ : List ℕ) where
   -- what is told for one cause, one amount and one witness
   Told : ℕ → Cause → ℕ → List ℕ → Explained → List ℕ → Type 0
-  Told t cause engine witness = WitnessShown witness area (failing (tasks bytes) t cause engine (length witness)) (plainly (Refused 13 0))
+  Told t cause engine witness = WitnessShown witness area (failing (tasks bytes) t cause engine (length witness)) (withoutDemands (Refused 13 0))
 
   fails-alike : (t : ℕ) → FailsAt bytes t area x area₁ → FailsAt bytes t area y area₂ → (x ≡ y) × (area₁ ≡ area₂)
   unfolding Told
@@ -45,11 +46,11 @@ module _ (bytes : List ℕ) (horizon : ℕ) (cells area : List ℕ) (x y : Expla
   holds-alike : HoldsTo bytes horizon x → HoldsTo bytes horizon y → x ≡ y
   holds-alike =
       pick-alike (eqb horizon 0) _ _ _ _ _
-      (λ (p : x ≡ plainly NoInterval) (q : y ≡ plainly NoInterval). p ∙ sym q)
-      (λ (p : (t : ℕ) × (margin : ℕ) × IsSmallestMargin (graph bytes) (tasks bytes) horizon t (pos margin) × (x ≡ plainly (Holds margin t)))
-      (q : (t : ℕ) × (margin : ℕ) × IsSmallestMargin (graph bytes) (tasks bytes) horizon t (pos margin) × (y ≡ plainly (Holds margin t))).
+      (λ (p : x ≡ withoutDemands NoInterval) (q : y ≡ withoutDemands NoInterval). p ∙ sym q)
+      (λ (p : (t : ℕ) × (margin : ℕ) × IsSmallestMargin (graph bytes) (tasks bytes) horizon t (pos margin) × (x ≡ withoutDemands (Holds margin t)))
+      (q : (t : ℕ) × (margin : ℕ) × IsSmallestMargin (graph bytes) (tasks bytes) horizon t (pos margin) × (y ≡ withoutDemands (Holds margin t))).
       let same = smallest-unique (graph bytes) (tasks bytes) horizon (p .0) (q .0) (p .1) (q .1) (p .2) (q .2) in
-      p .3 ∙ ap₂ (λ (margin t : ℕ). plainly (Holds margin t)) (same .1) (same .0) ∙ sym (q .3))
+      p .3 ∙ ap₂ (λ (margin t : ℕ). withoutDemands (Holds margin t)) (same .1) (same .0) ∙ sym (q .3))
 
   explains-alike : (v : Verdict) → Explains bytes horizon area v x area₁ → Explains bytes horizon area v y area₂ → (x ≡ y) × (area₁ ≡ area₂)
   explains-alike holds p q = (holds-alike (p .0) (q .0), p .1 ∙ sym (q .1))

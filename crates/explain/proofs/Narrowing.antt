@@ -11,18 +11,12 @@ use lib.IntN.{ℤ, pos}
 use lib.ListN.{length}
 use lib.Signed.{_≤ℤ_, leZ-yes}
 use Rattle.meaning.specs.Graph.{Graph}
-use Rattle.meaning.specs.Cells.{ByInterval}
-use Rattle.meaning.specs.Computed.{cellAt, maxBelow}
 use Rattle.meaning.specs.Demand.{IsDemand}
 use Rattle.meaning.specs.Fixed.{Task, fixedSum}
 use Rattle.meaning.specs.Verdict.{holds, overrun, IsMargin, IsVerdict}
 use Rattle.meaning.proofs.Margins.{margin-sub, margin-unique}
 use Rattle.fields.specs.Limits.{taskLimit}
-use Rattle.fields.specs.declared.values.Sheet.{Sheet}
-use Rattle.sheet.specs.Meaning.{graphOf}
-use Rattle.sheet.specs.Ready.{Ready}
-use Rattle.tables.specs.Lines.{HasLines}
-use Rattle.tables.proofs.Lines.{line-demand}
+use Rattle.tables.specs.Lines.{demandIn}
 use Rattle.overruns.specs.Releases.{Advanced}
 use Rattle.overruns.specs.Sweeping.{overAt}
 use Rattle.overruns.proofs.Releases.{Running}
@@ -111,30 +105,26 @@ module _ (g : Graph) (tasks : List Task) (horizon : ℕ) (engine : ℕ → ℕ) 
 
 -- ---- the loop
 
--- the largest cell of a line by interval
-abbrev pub lineMost : ℕ → List ℕ → ℕ → ℕ
-lineMost n cells t = maxBelow n (cellAt n cells t)
-
 -- After t intervals: fixed demand has run along and no interval so far is overrun, and the smallest margin so far is that of the lines and of whatever tasks ran at 0.
 pub record LookingOver (n : ℕ) (cells : List ℕ) (count horizon : ℕ) (lengths periods first dues : List ℕ) (fixed least at t : ℕ) : Type 0 where
   pub sweeping : Sweeping (overAt n cells) count horizon lengths periods first dues fixed t
   pub narrowing : (tasks : List Task) → length tasks ≡ count → Running tasks lengths periods first 0 0
-      → Narrowing (bothAt (lineMost n cells) tasks) horizon least at t
+      → Narrowing (bothAt (demandIn n cells) tasks) horizon least at t
 
 module _ (n : ℕ) (cells : List ℕ) (count horizon : ℕ) (lengths periods first : List ℕ) where
   -- before the first interval
   pub looking-start : length first ≡ taskLimit → LookingOver n cells count horizon lengths periods first first 0 (horizon + 1) 0 0
   looking-start room = record {
     sweeping = sweeping-start (overAt n cells) count horizon lengths periods first room;
-    narrowing = λ tasks e start. narrowing-start (bothAt (lineMost n cells) tasks) horizon;
+    narrowing = λ tasks e start. narrowing-start (bothAt (demandIn n cells) tasks) horizon;
   }
 
   module _ (dues : List ℕ) (fixed least at t : ℕ) (before : LookingOver n cells count horizon lengths periods first dues fixed least at t) where
-    module _ (new : List ℕ) (work : ℕ) (advanced : Advanced lengths periods dues new count (t + 1) work) (engine : ℕ) (most : engine ≡ lineMost n cells (t + 1))
+    module _ (new : List ℕ) (work : ℕ) (advanced : Advanced lengths periods dues new count (t + 1) work) (engine : ℕ) (most : engine ≡ demandIn n cells (t + 1))
         (h : t < horizon) where
       -- what is asked for at the next interval
       asked : (tasks : List Task) → length tasks ≡ count → Running tasks lengths periods first 0 0
-          → engine + (fixed + work) ≡ bothAt (lineMost n cells) tasks (t + 1)
+          → engine + (fixed + work) ≡ bothAt (demandIn n cells) tasks (t + 1)
       asked tasks e start =
           omega (arith, most, running-next (overAt n cells) count horizon lengths periods first dues fixed t (before .sweeping) new work advanced tasks e start .sum-is)
 
@@ -142,14 +132,14 @@ module _ (n : ℕ) (cells : List ℕ) (count horizon : ℕ) (lengths periods fir
       passed : engine + (fixed + work) ≤ t + 1 → Sweeping (overAt n cells) count horizon lengths periods first new (fixed + work) (t + 1)
       passed fits =
           sweeping-on (overAt n cells) count horizon lengths periods first dues fixed t (before .sweeping) new work advanced h
-          (le-ltb (t + 1) (lineMost n cells (t + 1) + (fixed + work)) (omega (arith, most)))
+          (le-ltb (t + 1) (demandIn n cells (t + 1) + (fixed + work)) (omega (arith, most)))
 
       -- and its margin is smaller
       pub looking-smaller : engine + (fixed + work) ≤ t + 1 → t + 1 - (engine + (fixed + work)) < least
           → LookingOver n cells count horizon lengths periods first new (fixed + work) (t + 1 - (engine + (fixed + work))) (t + 1) (t + 1)
       looking-smaller fits smaller = record {
         sweeping = passed fits;
-        narrowing = λ tasks e start. narrowing-smaller (bothAt (lineMost n cells) tasks) horizon least at t
+        narrowing = λ tasks e start. narrowing-smaller (bothAt (demandIn n cells) tasks) horizon least at t
             (before .narrowing tasks e start) (t + 1 - (engine + (fixed + work))) (ap (λ (x : ℕ). t + 1 - x) (asked tasks e start)) smaller;
       }
 
@@ -158,7 +148,7 @@ module _ (n : ℕ) (cells : List ℕ) (count horizon : ℕ) (lengths periods fir
           → LookingOver n cells count horizon lengths periods first new (fixed + work) least at (t + 1)
       looking-kept fits kept = record {
         sweeping = passed fits;
-        narrowing = λ tasks e start. narrowing-kept (bothAt (lineMost n cells) tasks) horizon least at t
+        narrowing = λ tasks e start. narrowing-kept (bothAt (demandIn n cells) tasks) horizon least at t
             (before .narrowing tasks e start) (t + 1 - (engine + (fixed + work))) (ap (λ (x : ℕ). t + 1 - x) (asked tasks e start)) h kept;
       }
 
@@ -168,7 +158,7 @@ module _ (n : ℕ) (cells : List ℕ) (count horizon : ℕ) (lengths periods fir
           → IsVerdict g tasks horizon (overrun (t + 1)) × (fixed + work ≡ fixedSum tasks (t + 1))
       looking-overrun over g tasks e start decides = (
         sweeping-overrun (overAt n cells) count horizon lengths periods first dues fixed t (before .sweeping) new work advanced h
-            (lt-ltb (t + 1) (lineMost n cells (t + 1) + (fixed + work)) (omega (arith, most))) g tasks e start decides,
+            (lt-ltb (t + 1) (demandIn n cells (t + 1) + (fixed + work)) (omega (arith, most))) g tasks e start decides,
         running-next (overAt n cells) count horizon lengths periods first dues fixed t (before .sweeping) new work advanced tasks e start .sum-is,
       )
 
@@ -178,18 +168,11 @@ module _ (n : ℕ) (cells : List ℕ) (count horizon : ℕ) (lengths periods fir
       looking-nothing none = omega (arith, before .narrowing tasks e start .none none .0)
 
       -- where one was: no interval is overrun, and it is the smallest
-      pub looking-smallest : 1 ≤ at → (g : Graph) → Decides g tasks horizon (overAt n cells) → ((u : ℕ) → u ≤ horizon → IsDemand g u (lineMost n cells u))
+      pub looking-smallest : 1 ≤ at → (g : Graph) → Decides g tasks horizon (overAt n cells) → ((u : ℕ) → u ≤ horizon → IsDemand g u (demandIn n cells u))
           → IsVerdict g tasks horizon holds × IsSmallestMargin g tasks horizon at (pos least)
       looking-smallest some g decides demand = (
         sweeping-holds (overAt n cells) count horizon lengths periods first dues fixed t (before .sweeping) done g tasks e start decides,
-        narrowing-smallest g tasks horizon (lineMost n cells) demand
-            (λ u a b. ltb-false u (bothAt (lineMost n cells) tasks u) (before .sweeping .met tasks e start u a (omega arith)))
+        narrowing-smallest g tasks horizon (demandIn n cells) demand
+            (λ u a b. ltb-false u (bothAt (demandIn n cells) tasks u) (before .sweeping .met tasks e start u a (omega arith)))
             least at t (before .narrowing tasks e start) done (before .sweeping .within) some,
       )
-
--- the largest cell of a line is the demand of the graph of a sheet
-pub sheet-demand : (bytes : List ℕ) (sheet : Sheet) → Ready bytes sheet → (cells : List ℕ) (horizon : ℕ)
-    → HasLines (sheet .tally .rows) (ByInterval (graphOf bytes sheet)) cells (horizon + 1)
-    → (u : ℕ) → u ≤ horizon → IsDemand (graphOf bytes sheet) u (lineMost (sheet .tally .rows) cells u)
-unfolding graphOf
-sheet-demand bytes sheet ready cells horizon lines u h = line-demand (graphOf bytes sheet) (ready .sound) cells (horizon + 1) lines u (omega arith)

@@ -3,15 +3,16 @@ use Prim.Native.Nat.{ℕ, _+_, _≤_, _<_}
 use native.Mathlib.Omega.{arith}
 use mathlib.Core.Path.{_≡_, refl, ap, subst⁻¹}
 use mathlib.Core.Bool.{Bool, true, false}
-use mathlib.Core.List.{List, [], _∷_, _++_}
+use mathlib.Core.List.{List, [], _∷_}
 use lib.Dec.{ltb, eqb}
 use lib.IntN.{pos}
-use lib.ListN.{length, drop}
+use lib.ListN.{length}
 use borrow.Author.Tests.{ltb-true, ltb-false}
-use Rattle.meaning.specs.Demand.{longestTime, IsWitness}
+use Rattle.meaning.specs.Demand.{longestTime}
 use Rattle.meaning.specs.Verdict.{Verdict, holds, overrun, IsVerdict}
 use Rattle.meaning.proofs.Bounds.{witness-at-most}
 use Rattle.fields.specs.Deciding.{_when_, pick}
+use Rattle.fields.proofs.Deciding.{pick-case}
 use Rattle.sheet.specs.Judging.{judged}
 use Rattle.sheet.specs.Proper.{Bytes}
 use Rattle.sheet.proofs.Accepted.{accepted-proper}
@@ -20,8 +21,9 @@ use Rattle.sheet.proofs.Refusals.{refused-number}
 use Rattle.sheet.specs.declared.Answer.{Answer}
 use Rattle.sheet.specs.declared.Answer.the-variants as sheet-case
 use Rattle.beginning.specs.Beginning.{graph, tasks, roomFor, Begins}
+use Rattle.beginning.proofs.Showing.{shown-case}
 use Rattle.explain.specs.Reasons.{IsSmallestMargin}
-use Rattle.explain.specs.Calls.{plainly, failing, ExplainRefuses, Explains, ExplainAnswers, ExplainCall}
+use Rattle.explain.specs.Calls.{withoutDemands, failing, ExplainRefuses, FailsAt, HoldsTo, Explains, ExplainAnswers, ExplainCall}
 use Rattle.explain.specs.declared.Cause.{Cause}
 use Rattle.explain.specs.declared.ExplainAnswer.{ExplainAnswer}
 use Rattle.explain.specs.declared.ExplainAnswer.the-variants.{Holds, NoInterval, Fails, Refused}
@@ -56,35 +58,34 @@ module _ (bytes : List ℕ) (are : Bytes bytes) (horizon : ℕ) (cells area : Li
   silent : (answer : ExplainAnswer) → numberOf answer ≤ 11 → rowsOf answer ≡ 0 → OfRoom answer
   silent answer early none = record { few = λ e. absurd (omega arith); short = λ e. absurd (omega arith); inside = omega arith }
 
-  answered : judged bytes .answer ≡ sheet-case.Accepted → horizon ≤ longestTime → ExplainAnswers bytes horizon cells area explained cells′ area′ → OfRoom (explained .answer)
-  unfolding pick
-  answered accepted range (filled, (v, is, why)) = given v is why
-    where
-      held : (none : Bool)
-          → pick none
-          (explained ≡ plainly NoInterval)
-          ((t : ℕ) × (least : ℕ) × IsSmallestMargin (graph bytes) (tasks bytes) horizon t (pos least) × (explained ≡ plainly (Holds least t)))
-          → OfRoom (explained .answer)
-      held true e = known (plainly NoInterval) e (silent NoInterval (omega arith) refl)
-      held false (t, least, is, e) = known (plainly (Holds least t)) e (silent (Holds least t) (omega arith) refl)
+  -- where it holds, there is no witness
+  held : HoldsTo bytes horizon explained → OfRoom (explained .answer)
+  held =
+      pick-case (eqb horizon 0) _ _ (OfRoom (explained .answer))
+      (λ none (e : explained ≡ withoutDemands NoInterval). known (withoutDemands NoInterval) e (silent NoInterval (omega arith) refl))
+      (λ some (p : (t : ℕ) × (margin : ℕ) × IsSmallestMargin (graph bytes) (tasks bytes) horizon t (pos margin) × (explained ≡ withoutDemands (Holds margin t))).
+      known (withoutDemands (Holds (p .1) (p .0))) (p .3) (silent (Holds (p .1) (p .0)) (omega arith) refl))
 
-      failed : (t : ℕ) (cause : Cause) (engine : ℕ) (witness : List ℕ) → t ≤ horizon → IsWitness (graph bytes) t witness
-          → (long : Bool) → ltb (length area) (length witness) ≡ long
-          → pick long
-          ((explained ≡ plainly (Refused 13 0)) × (area′ ≡ area))
-          ((explained ≡ failing (tasks bytes) t cause engine (length witness)) × (area′ ≡ witness ++ drop (length witness) area))
-          → OfRoom (explained .answer)
-      failed t cause engine witness upto first true e gives =
-          let most : length witness ≤ t = witness-at-most (graph bytes) (proper-sound bytes (judged bytes .sheet) (accepted-proper bytes are accepted)) t witness first in
-          known (plainly (Refused 13 0)) (gives .0)
-          record { few = λ e. absurd (omega arith); short = λ _. (range, omega (arith, ltb-true (length area) (length witness) e)); inside = omega arith }
-      failed t cause engine witness upto first false e gives =
-          known (failing (tasks bytes) t cause engine (length witness)) (gives .0)
-          record { few = λ e. absurd (omega arith); short = λ e. absurd (omega arith); inside = ltb-false _ _ e }
+  module _ (accepted : judged bytes .answer ≡ sheet-case.Accepted) (range : horizon ≤ longestTime) where
+    -- where it fails, the witness has at most a row for each tick
+    failed : (t : ℕ) → t ≤ horizon → FailsAt bytes t area explained area′ → OfRoom (explained .answer)
+    failed t upto (cause, engine, witness, demand, first, sums, told) =
+        let most : length witness ≤ t = witness-at-most (graph bytes) (proper-sound bytes (judged bytes .sheet) (accepted-proper bytes are accepted)) t witness first in
+        shown-case witness area (failing (tasks bytes) t cause engine (length witness)) (withoutDemands (Refused 13 0)) (OfRoom (explained .answer)) explained area′
+        (λ long e same.
+        known (withoutDemands (Refused 13 0)) e
+        record { few = λ e. absurd (omega arith); short = λ _. (range, omega (arith, long, most)); inside = omega arith })
+        (λ enough e written.
+        known (failing (tasks bytes) t cause engine (length witness)) e
+        record { few = λ e. absurd (omega arith); short = λ e. absurd (omega arith); inside = enough })
+        told
 
-      given : (v : Verdict) → IsVerdict (graph bytes) (tasks bytes) horizon v → Explains bytes horizon area v explained area′ → OfRoom (explained .answer)
-      given holds is why = held (eqb horizon 0) (why .0)
-      given (overrun t) is (cause, engine, witness, most, first, sums, gives) = failed t cause engine witness (is .1) first (ltb (length area) (length witness)) refl gives
+    answered : ExplainAnswers bytes horizon cells area explained cells′ area′ → OfRoom (explained .answer)
+    answered (filled, (v, is, why)) = given v is why
+      where
+        given : (v : Verdict) → IsVerdict (graph bytes) (tasks bytes) horizon v → Explains bytes horizon area v explained area′ → OfRoom (explained .answer)
+        given holds is why = held (why .0)
+        given (overrun t) is why = failed t (is .1) why
 
   module _ (call : ExplainCall bytes horizon cells area explained cells′ area′) where
     of-room : OfRoom (explained .answer)
@@ -95,10 +96,10 @@ module _ (bytes : List ℕ) (are : Bytes bytes) (horizon : ℕ) (cells area : Li
             → Begins a (11 when o ∷ 12 when f ∷ []) (ExplainRefuses cells area explained cells′ area′) (ExplainAnswers bytes horizon cells area explained cells′ area′)
             → OfRoom (explained .answer)
         go (sheet-case.Refused n place) e o range f few r =
-            known (plainly (Refused n place)) (r .0) (silent (Refused n place) (omega (arith, refused-number bytes n place e)) refl)
-        go sheet-case.Accepted e true range f few r = known (plainly (Refused 11 0)) (r .0) (silent (Refused 11 0) (omega arith) refl)
+            known (withoutDemands (Refused n place)) (r .0) (silent (Refused n place) (omega (arith, refused-number bytes n place e)) refl)
+        go sheet-case.Accepted e true range f few r = known (withoutDemands (Refused 11 0)) (r .0) (silent (Refused 11 0) (omega arith) refl)
         go sheet-case.Accepted e false range true few r =
-            known (plainly (Refused 12 0)) (r .0)
+            known (withoutDemands (Refused 12 0)) (r .0)
             record { few = λ _. (ltb-false _ _ range, ltb-true _ _ few); short = λ e. absurd (omega arith); inside = omega arith }
         go sheet-case.Accepted e false range false few r = answered e (ltb-false _ _ range) r
 

@@ -1,4 +1,4 @@
--- The smallest margin of the intervals up to a horizon and its earliest interval: there is one of each, and it is at most 1.
+-- The smallest margin of the intervals up to a horizon and its earliest interval, where it is at least 0: there is one of each, and it is at most 1.
 use mathlib.Core.Path.{_≡_, refl, sym, subst}
 use mathlib.Core.Logic.{⊎-elim}
 use mathlib.Core.List.{List}
@@ -45,11 +45,11 @@ module _ (g : Graph) (tasks : List Task) (H : ℕ) where
     )
 
   -- at interval 1 at most 1 is left, so the smallest margin is 0 or 1
-  pub smallest-at-most-1 : Sound g → (t m : ℕ) → 1 ≤ H → IsSmallestMargin g tasks H t (pos m) → m ≤ 1
-  smallest-at-most-1 sound t m some smallest =
+  pub smallest-at-most-1 : Sound g → (t m : ℕ) → IsSmallestMargin g tasks H t (pos m) → m ≤ 1
+  smallest-at-most-1 sound t m smallest =
       let d : ℕ = demandOf g 1 in
       let f : ℕ = fixedSum tasks 1 in
-      left (d + f) (rw (margin-sub 1 d f) at (smallest .bound 1 _ (omega arith) some (d, demand-of g sound 1, refl)))
+      left (d + f) (rw (margin-sub 1 d f) at (smallest .bound 1 _ (omega arith) (omega (arith, smallest .reached .0, smallest .reached .1)) (d, demand-of g sound 1, refl)))
     where
       left : (used : ℕ) → pos m ≤ℤ subℕ 1 used → m ≤ 1
       left used l =

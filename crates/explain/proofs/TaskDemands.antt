@@ -1,12 +1,12 @@
--- What each fixed task asks for at an interval: an array of it written from the front, its sum, and what stands past the last task.
+-- What each fixed task asks for at an interval: an array of it written from the front, and its sum.
 use mathlib.Core.Path.{_≡_, refl, sym, ap, ap₂, _∙_}
 use mathlib.Core.List.{List, [], _∷_, _++_, sum, sum-append}
-use Prim.Native.Nat.{ℕ, zero, suc, _+_, _-_, _≤_, _<_}
+use Prim.Native.Nat.{ℕ, zero, suc, _+_, _<_}
 use native.Mathlib.Nat.{zero-add, add-assoc}
 use native.Mathlib.Numerals.{add-one}
 use native.Mathlib.Omega.{arith}
-use lib.ListN.{length, getD, set, take, drop, replicate}
-use lib.Seq.{length-take-le, take-all, drop-cons, append-snoc, set-at, getD-append-add, getD-drop}
+use lib.ListN.{length, getD, set, take, drop, replicate, length-map}
+use lib.Seq.{length-take-le, take-all, drop-cons, append-snoc, set-at}
 use Rattle.meaning.specs.Fixed.{Task, fixedOf, fixedSum}
 use Rattle.fields.specs.Limits.{taskLimit}
 use Rattle.sheet.specs.Meaning.{timesOf, tasksOf}
@@ -14,18 +14,12 @@ use Rattle.fields.specs.Values.{noTask}
 use Rattle.fields.specs.declared.values.Sheet.{Sheet}
 use Rattle.sheet.proofs.ProperTasks.{tasks-count, task-of}
 use Rattle.overruns.specs.Releases.{IsProper}
-use Rattle.explain.specs.Reasons.{eachDemand, noDemands, allDemands}
-
--- one demand a task
-each-length : (tasks : List Task) (t : ℕ) → length (eachDemand tasks t) ≡ length tasks
-unfolding eachDemand
-each-length [] t = refl
-each-length (task ∷ tasks) t = ap suc (each-length tasks t)
+use Rattle.explain.specs.Reasons.{eachDemand}
+use Rattle.explain.specs.Calls.{noDemands, allDemands}
 
 -- the demands of one more task
 each-more : (tasks : List Task) (t i : ℕ) (default : Task) → i < length tasks
     → eachDemand (take (suc i) tasks) t ≡ eachDemand (take i tasks) t ++ (fixedOf (getD tasks i default) t ∷ [])
-unfolding eachDemand
 each-more [] t i default h = absurd (omega arith)
 each-more (task ∷ tasks) t zero default h = refl
 each-more (task ∷ tasks) t (suc i) default h = ap (λ (rest : List ℕ). fixedOf task t ∷ rest) (each-more tasks t i default (omega arith))
@@ -40,7 +34,7 @@ demand-stored : (tasks : List Task) (t i : ℕ) (default : Task) → i < length 
 demand-stored tasks t i default h few =
     let before : List ℕ = eachDemand (take i tasks) t in
     let demand : ℕ = fixedOf (getD tasks i default) t in
-    let as-many : length before ≡ i = each-length (take i tasks) t ∙ length-take-le i tasks (omega arith) in
+    let as-many : length before ≡ i = length-map (take i tasks) _ ∙ length-take-le i tasks (omega arith) in
     ap (λ (rest : List ℕ). set (before ++ rest) i demand) (drop-cons noDemands i 0 few)
     ∙ set-at before (getD noDemands i 0) (drop (suc i) noDemands) demand i as-many
     ∙ sym (append-snoc before demand (drop (suc i) noDemands))
@@ -64,11 +58,11 @@ module _ (sheet : Sheet) (accepted : IsProper sheet) (t : ℕ) where
       let all : length (tasksOf sheet) ≡ i = tasks-count (accepted .0) sheet (accepted .1) ∙ sym e in
       ap₂ (λ (tasks : List Task) (n : ℕ). eachDemand tasks t ++ drop n noDemands)
       (take-all i (tasksOf sheet) (omega (arith, all)))
-      (sym (each-length (tasksOf sheet) t ∙ all))
+      (sym (length-map (tasksOf sheet) _ ∙ all))
 
 -- what the tasks ask for adds up to fixed demand
 pub demands-add-up : (tasks : List Task) (t : ℕ) → sum _+_ 0 (eachDemand tasks t) ≡ fixedSum tasks t
-unfolding sum eachDemand fixedSum
+unfolding sum fixedSum
 demands-add-up [] t = refl
 demands-add-up (task ∷ tasks) t = ap (λ (rest : ℕ). fixedOf task t + rest) (demands-add-up tasks t)
 
@@ -86,19 +80,3 @@ all-demands-add-up tasks t =
     let each : List ℕ = eachDemand tasks t in
     sum-append _+_ 0 zero-add add-assoc each (drop (length each) noDemands)
     ∙ omega (arith, demands-add-up tasks t, zeros-add-up (length each) taskLimit)
-
--- a list of one number has it at every place, and past its end it is read as well
-repeated-at : (most i number : ℕ) → getD (replicate most number) i number ≡ number
-repeated-at zero i number = refl
-repeated-at (suc most) zero number = refl
-repeated-at (suc most) (suc i) number = repeated-at most i number
-
--- past the last task the array is 0
-pub demand-past-last : (tasks : List Task) (t i : ℕ) → length tasks ≤ i → getD (allDemands tasks t) i 0 ≡ 0
-demand-past-last tasks t i h =
-    let each : List ℕ = eachDemand tasks t in
-    let behind : i ≡ length each + (i - length each) = omega (arith, each-length tasks t) in
-    ap (λ (place : ℕ). getD (allDemands tasks t) place 0) behind
-    ∙ getD-append-add each (drop (length each) noDemands) (i - length each) 0
-    ∙ getD-drop (length each) noDemands (i - length each) 0
-    ∙ repeated-at taskLimit (length each + (i - length each)) 0

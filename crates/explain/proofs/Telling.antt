@@ -16,16 +16,17 @@ use Rattle.fields.specs.declared.values.Sheet.{Sheet}
 use Rattle.sheet.specs.Judging.{judged}
 use Rattle.sheet.specs.Meaning.{graphOf, tasksOf}
 use Rattle.sheet.specs.Ready.{Ready}
-use Rattle.tables.specs.Lines.{HasLines}
+use Rattle.tables.specs.Lines.{HasLines, demandIn}
 use Rattle.witness.specs.Stands.{IsShown}
 use Rattle.witness.specs.declared.Shown.{Shown}
 use Rattle.witness.specs.declared.Shown.the-variants.{Rows, TooLong}
-use Rattle.beginning.specs.Beginning.{graph, tasks, WitnessShown}
+use Rattle.beginning.specs.Beginning.{graph, tasks}
+use Rattle.beginning.specs.Showing.{WitnessShown}
 use Rattle.beginning.proofs.Showing.{shown-as}
 use Rattle.desk.proofs.Telling.{room-for-fewer, lines-filled, demand-told, witness-told}
-use Rattle.explain.specs.Reasons.{Sums, excessOf, allDemands}
-use Rattle.explain.specs.Looking.{Shows, engineIn, toldWith, ToldAt}
-use Rattle.explain.specs.Calls.{plainly, failing, FailsAt, ExplainAnswers}
+use Rattle.explain.specs.Reasons.{Sums, excessOf}
+use Rattle.explain.specs.Looking.{Shows, toldWith, ToldAt}
+use Rattle.explain.specs.Calls.{withoutDemands, allDemands, failing, FailsAt, ExplainAnswers}
 use Rattle.explain.specs.declared.Cause.{Cause}
 use Rattle.explain.specs.declared.Explained.{Explained}
 use Rattle.explain.specs.declared.ExplainAnswer.the-variants.{Holds, NoInterval, Fails, Refused}
@@ -42,12 +43,12 @@ fewer-lines n Right cells count lines fewer table = record {
 
 -- the numbers read at an overrun, with its cause
 module _ (sheet : Sheet) (cells : List ℕ) (t fixed engine : ℕ) (cause : Cause) (shown : Shown)
-    (most : engine ≡ engineIn sheet cells t) (sums : Sums cause t engine fixed) where
-  sums-there : Sums cause t (engineIn sheet cells t) fixed
+    (most : engine ≡ demandIn (sheet .tally .rows) cells t) (sums : Sums cause t engine fixed) where
+  sums-there : Sums cause t (demandIn (sheet .tally .rows) cells t) fixed
   sums-there = subst (λ (d : ℕ). Sums cause t d fixed) most sums
 
   -- the witness does not fit
-  pub too-long-told : (explained : Explained) → shown ≡ TooLong → explained ≡ plainly (Refused 13 0) → ToldAt sheet cells t fixed shown explained
+  pub too-long-told : (explained : Explained) → shown ≡ TooLong → explained ≡ withoutDemands (Refused 13 0) → ToldAt sheet cells t fixed shown explained
   too-long-told explained none e = (cause, sums-there, rw none e)
 
   -- the witness is shown, and the numbers are told
@@ -70,20 +71,20 @@ module _ (bytes : List ℕ) (sheet : Sheet) (is : sheet ≡ judged bytes .sheet)
     sum-told = sum ∙ ap (λ (s : Sheet). fixedSum (tasksOf s) t) is
 
     -- the largest cell of the line is the demand
-    engine-told : IsDemand (graph bytes) t (engineIn sheet cells t)
-    engine-told = demand-told bytes sheet is ready t cells table (engineIn sheet cells t) refl
+    engine-told : IsDemand (graph bytes) t (demandIn (sheet .tally .rows) cells t)
+    engine-told = demand-told bytes sheet is ready t cells table (demandIn (sheet .tally .rows) cells t) refl
 
     -- both demands together are more than t
-    pub more-than-interval : t < engineIn sheet cells t + fixed
+    pub more-than-interval : t < demandIn (sheet .tally .rows) cells t + fixed
     more-than-interval =
         let overrun-there : Overruns (graph bytes) (tasks bytes) t = subst (λ (s : Sheet). Overruns (graphOf bytes s) (tasksOf s) t) is over in
-        rw sum-told (overruns-by-demand (graph bytes) (tasks bytes) t (engineIn sheet cells t) engine-told .0 overrun-there)
+        rw sum-told (overruns-by-demand (graph bytes) (tasks bytes) t (demandIn (sheet .tally .rows) cells t) engine-told .0 overrun-there)
 
     -- what is told with the witness as it is shown is what the call promises
     pub overrun-shown : (area area′ : List ℕ) (shown : Shown) (explained : Explained) → IsShown (witnessOf (graphOf bytes sheet) t) area shown area′
         → ToldAt sheet cells t fixed shown explained → FailsAt bytes t area explained area′
     overrun-shown area area′ shown explained is-shown (cause, sums, e) =
-        let engine : ℕ = engineIn sheet cells t in
+        let engine : ℕ = demandIn (sheet .tally .rows) cells t in
         let witness : List ℕ = witnessOf (graphOf bytes sheet) t in
         let same : explained ≡ toldWith (tasks bytes) t cause engine shown = e ∙ ap (λ (s : Sheet). toldWith (tasksOf s) t cause engine shown) is in (
           cause,
@@ -92,7 +93,7 @@ module _ (bytes : List ℕ) (sheet : Sheet) (is : sheet ≡ judged bytes .sheet)
           engine-told,
           witness-told bytes sheet is ready t,
           subst (Sums cause t engine) sum-told sums,
-          subst (λ (x : Explained). WitnessShown witness area (failing (tasks bytes) t cause engine (length witness)) (plainly (Refused 13 0)) x area′) (sym same)
+          subst (λ (x : Explained). WitnessShown witness area (failing (tasks bytes) t cause engine (length witness)) (withoutDemands (Refused 13 0)) x area′) (sym same)
               (shown-as witness area (Rows (length witness)) TooLong (toldWith (tasks bytes) t cause engine) shown area′ is-shown),
         )
 
@@ -100,7 +101,7 @@ module _ (bytes : List ℕ) (sheet : Sheet) (is : sheet ≡ judged bytes .sheet)
   module _ (horizon : ℕ) (old new area : List ℕ) (filled : Filled (sheet .tally .rows) (ByInterval (graphOf bytes sheet)) old new (sheet .tally .rows * (horizon + 1)))
       (explained : Explained) where
     -- no interval is there
-    pub none-told : Shows (graphOf bytes sheet) (tasksOf sheet) horizon tightest-case.Nothing → explained ≡ plainly NoInterval
+    pub none-told : Shows (graphOf bytes sheet) (tasksOf sheet) horizon tightest-case.Nothing → explained ≡ withoutDemands NoInterval
         → ExplainAnswers bytes horizon old area explained new area
     unfolding pick
     none-told none e = (
@@ -109,7 +110,7 @@ module _ (bytes : List ℕ) (sheet : Sheet) (is : sheet ≡ judged bytes .sheet)
     )
 
     -- no interval is overrun
-    pub margin-told : (margin t : ℕ) → Shows (graphOf bytes sheet) (tasksOf sheet) horizon (tightest-case.Margin margin t) → explained ≡ plainly (Holds margin t)
+    pub margin-told : (margin t : ℕ) → Shows (graphOf bytes sheet) (tasksOf sheet) horizon (tightest-case.Margin margin t) → explained ≡ withoutDemands (Holds margin t)
         → ExplainAnswers bytes horizon old area explained new area
     unfolding pick
     margin-told margin t shows e =

@@ -5,17 +5,16 @@ use mathlib.Core.List.{List}
 use lib.IntN.{pos}
 use Rattle.meaning.specs.Graph.{Graph}
 use Rattle.meaning.specs.Cells.{ByInterval}
-use Rattle.meaning.specs.Computed.{cellAt, maxBelow}
 use Rattle.meaning.specs.Fixed.{Task, fixedSum}
 use Rattle.meaning.specs.Verdict.{holds, overrun, IsVerdict}
 use Rattle.sheet.specs.Meaning.{graphOf, tasksOf}
 use Rattle.sheet.specs.Ready.{Ready}
 use Rattle.fields.specs.declared.values.Sheet.{Sheet}
-use Rattle.tables.specs.Lines.{HasLines}
+use Rattle.tables.specs.Lines.{HasLines, demandIn}
 use Rattle.witness.specs.declared.Shown.{Shown}
 use Rattle.witness.specs.declared.Shown.the-variants.{Rows, TooLong}
 use Rattle.explain.specs.Reasons.{Sums, IsSmallestMargin}
-use Rattle.explain.specs.Calls.{plainly, failing}
+use Rattle.explain.specs.Calls.{withoutDemands, failing}
 use Rattle.explain.specs.declared.Cause.{Cause}
 use Rattle.explain.specs.declared.ExplainAnswer.the-variants.{Refused}
 use Rattle.explain.specs.declared.Explained.{Explained}
@@ -34,16 +33,13 @@ IsTightest sheet cells horizon found =
     (bytes : List ℕ) → Ready bytes sheet → HasLines (sheet .tally .rows) (ByInterval (graphOf bytes sheet)) cells (horizon + 1)
     → Shows (graphOf bytes sheet) (tasksOf sheet) horizon found
 
--- the engine's demand as the cells have it: the largest of its line
-abbrev pub engineIn : Sheet → List ℕ → ℕ → ℕ
-engineIn sheet cells t = maxBelow (sheet .tally .rows) (cellAt (sheet .tally .rows) cells t)
-
 -- what is told of an overrun with its witness as it was shown
 abbrev pub toldWith : List Task → ℕ → Cause → ℕ → Shown → Explained
 toldWith tasks t cause engine (Rows count) = failing tasks t cause engine count
-toldWith tasks t cause engine TooLong = plainly (Refused 13 0)
+toldWith tasks t cause engine TooLong = withoutDemands (Refused 13 0)
 
 -- that is told, with the cause whose sums hold
 abbrev pub ToldAt : Sheet → List ℕ → ℕ → ℕ → Shown → Explained → Type 0
 ToldAt sheet cells t fixed shown explained =
-    (cause : Cause) × Sums cause t (engineIn sheet cells t) fixed × (explained ≡ toldWith (tasksOf sheet) t cause (engineIn sheet cells t) shown)
+    let engine = demandIn (sheet .tally .rows) cells t in
+    (cause : Cause) × Sums cause t engine fixed × (explained ≡ toldWith (tasksOf sheet) t cause engine shown)

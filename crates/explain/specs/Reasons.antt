@@ -1,14 +1,12 @@
 -- Why a verdict is what it is: the cause of an overrun, what each fixed task asks for there, and the smallest margin where nothing is overrun.
 use Prim.Native.Nat.{ℕ, _+_, _-_, _≤_, _<_}
-use mathlib.Core.List.{List, [], _∷_, _++_}
+use mathlib.Core.List.{List, map}
 use lib.IntN.{ℤ}
-use lib.ListN.{length, drop, replicate}
 use lib.Signed.{_≤ℤ_}
 use Rattle.meaning.specs.Graph.{Graph}
 use Rattle.meaning.specs.Demand.{IsDemand}
 use Rattle.meaning.specs.Fixed.{Task, fixedOf, fixedSum}
 use Rattle.meaning.specs.Verdict.{IsMargin}
-use Rattle.fields.specs.Limits.{taskLimit}
 use Rattle.explain.specs.declared.Cause.{Cause}
 use Rattle.explain.specs.declared.Cause.the-variants.{Engine, Fixed, Together}
 
@@ -30,7 +28,7 @@ Sums Engine = EngineAlone
 Sums Fixed = FixedAlone
 Sums Together = OnlyTogether
 
--- the cause at t: the one whose sums hold
+-- the cause at t: the one whose sums hold, with the engine's demand there
 abbrev pub IsCause : Graph → List Task → ℕ → Cause → Type 0
 IsCause g tasks t cause = (engine : ℕ) × IsDemand g t engine × Sums cause t engine (fixedSum tasks t)
 
@@ -44,17 +42,6 @@ pub record IsSmallestMargin (g : Graph) (tasks : List Task) (H t : ℕ) (m : ℤ
   pub reached : (1 ≤ t) × (t ≤ H) × IsMargin g tasks t m
   pub earliest : (u : ℕ) → 1 ≤ u → u < t → IsMargin g tasks u m → ⊥
 
--- what each fixed task asks for at t, in file order
-unfoldable pub eachDemand : List Task → ℕ → List ℕ
-eachDemand [] t = []
-eachDemand (task ∷ tasks) t = fixedOf task t ∷ eachDemand tasks t
-
--- a 0 for each of the most tasks that a sheet can have
-abbrev pub noDemands : List ℕ
-noDemands = replicate taskLimit 0
-
--- the same with the demands at t in front: 0 past the last task
-abbrev pub allDemands : List Task → ℕ → List ℕ
-allDemands tasks t =
-    let each : List ℕ = eachDemand tasks t in
-    each ++ drop (length each) noDemands
+-- what each fixed task asks for at t, one after the other
+abbrev pub eachDemand : List Task → ℕ → List ℕ
+eachDemand tasks t = map (λ (task : Task). fixedOf task t) tasks

@@ -18,11 +18,12 @@ ghost use Rattle.meaning.specs.Fixed.{fixedSum};
 ghost use Rattle.sheet.specs.Judging.{judged};
 ghost use Rattle.sheet.specs.Meaning.{tasksOf};
 ghost use Rattle.sheet.specs.Ready.{Ready};
+ghost use Rattle.tables.specs.Lines.{demandIn};
 ghost use Rattle.overruns.specs.Releases.{IsProper};
 ghost use Rattle.beginning.specs.Beginning.{roomFor};
 ghost use Rattle.explain.specs.Reasons.{Sums};
-ghost use Rattle.explain.specs.Calls.{plainly, ExplainAnswers};
-ghost use Rattle.explain.specs.Looking.{engineIn, ToldAt};
+ghost use Rattle.explain.specs.Calls.{withoutDemands, ExplainAnswers};
+ghost use Rattle.explain.specs.Looking.{ToldAt};
 
 // The whole table by interval, also behind an overrun, then one pass over its lines.
 pub(crate) fn explain_in(
@@ -40,8 +41,8 @@ pub(crate) fn explain_in(
 {
     fill_by_interval(bytes, sheet, cells, horizon);
     match look_over(sheet, cells, horizon) {
-        Tightest::Nothing => plain(ExplainAnswer::NoInterval),
-        Tightest::Margin { margin, interval } => plain(ExplainAnswer::Holds {
+        Tightest::Nothing => without_demands(ExplainAnswer::NoInterval),
+        Tightest::Margin { margin, interval } => without_demands(ExplainAnswer::Holds {
             margin: margin,
             interval: interval as u64,
         }),
@@ -58,14 +59,14 @@ fn overrun_at(sheet: Sheet, t: usize, fixed: u64, cells: &[u32], shown: Shown) -
     requires { ⌜ t ≤ longestTime ⌝ }
     requires { ⌜ sheet .tally .rows * (t + 1) ≤ length (now cells) ⌝ }
     requires { ⌜ fixed ≡ fixedSum (tasksOf sheet) t ⌝ }
-    requires { ⌜ t < engineIn sheet (now cells) t + fixed ⌝ }
+    requires { ⌜ t < demandIn (sheet .tally .rows) (now cells) t + fixed ⌝ }
     ensures { λ r. ⌜ ToldAt sheet (now (cells .entry)) t fixed shown r ⌝ }
 {
     let tally = sheet.tally;
     let engine = demand_of(cells, tally.rows, t);
     let cause = cause_of(t as u64, engine as u64, fixed);
     match shown {
-        Shown::TooLong => plain(ExplainAnswer::Refused {
+        Shown::TooLong => without_demands(ExplainAnswer::Refused {
             number: 13,
             place: 0,
         }),
@@ -102,8 +103,8 @@ fn cause_of(t: u64, engine: u64, fixed: u64) -> Cause
 }
 
 // An answer that comes without demands of tasks.
-pub(crate) fn plain(answer: ExplainAnswer) -> Explained
-    ensures { λ r. ⌜ r ≡ plainly answer ⌝ }
+pub(crate) fn without_demands(answer: ExplainAnswer) -> Explained
+    ensures { λ r. ⌜ r ≡ withoutDemands answer ⌝ }
 {
     Explained {
         answer: answer,

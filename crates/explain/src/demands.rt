@@ -6,7 +6,7 @@ ghost use Prim.Native.Nat.{_≤_};
 ghost use Rattle.meaning.specs.Demand.{longestTime};
 ghost use Rattle.sheet.specs.Meaning.{tasksOf};
 ghost use Rattle.overruns.specs.Releases.{IsProper};
-ghost use Rattle.explain.specs.Reasons.{allDemands};
+ghost use Rattle.explain.specs.Calls.{allDemands};
 
 // The demand of each fixed task at t in file order, 0 past the last.
 pub(crate) fn demands_at(sheet: Sheet, t: usize) -> [u64; Sheet::TASKS]

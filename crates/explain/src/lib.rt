@@ -4,7 +4,7 @@ mod demands;
 mod looking;
 
 use answering::explain_in;
-use answering::plain;
+use answering::without_demands;
 use beginning::begin_interval;
 use fields::values::Sheet;
 use sheet::Answer;
@@ -37,7 +37,7 @@ pub enum ExplainAnswer {
     },
 }
 
-// An enum holds no array, so the demand of each fixed task at the overrun stands beside the answer: in file order, 0 past the last task, and all 0 where nothing is overrun.
+// An enum holds no array, so the demand of each fixed task at the overrun stands beside the answer: in file order, 0 past the last task, and all 0 in every answer but `Fails`.
 pub struct Explained {
     pub answer: ExplainAnswer,
     pub demands: [u64; Sheet::TASKS],
@@ -52,7 +52,7 @@ pub fn explain(bytes: &[u8], horizon: u64, cells: &mut [u32], area: &mut [u8]) -
     let sheet = begun.sheet;
     match answer {
         Answer::Refused { number, place } => {
-            plain(ExplainAnswer::Refused {
+            without_demands(ExplainAnswer::Refused {
                 number: number,
                 place: place,
             })

@@ -10,7 +10,7 @@ ghost use Rattle.overruns.specs.Releases.{IsProper};
 ghost use Rattle.explain.specs.Looking.{IsTightest};
 
 // There is no interval; the smallest margin and the first interval that has it; or the first interval that is overrun, with fixed demand there.
-pub enum Tightest {
+pub(crate) enum Tightest {
     Nothing,
     Margin { margin: u64, interval: usize },
     Overrun { interval: usize, fixed: u64 },

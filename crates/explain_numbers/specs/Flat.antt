@@ -8,7 +8,7 @@ use Rattle.explain.specs.declared.ExplainAnswer.the-variants.{Holds, NoInterval
 use Rattle.explain.specs.declared.Explained.{Explained}
 use Rattle.explain_numbers.specs.declared.ExplainForC.{ExplainForC}
 
--- the causes count from 1, since 0 says that nothing is overrun
+-- the causes count from 1, since 0 says that nothing is overrun or that the call is refused
 abbrev pub causeNumber : Cause → ℕ
 causeNumber Engine = 1
 causeNumber Fixed = 2

@@ -20,6 +20,12 @@ pub no : {A : Type 0} (b : Bool) (x y z : A) → b ≡ false → z ≡ y → z �
 unfolding pick
 no b x y z e h = rw e h
 
+-- what follows from either of two promises follows from the one that a test has chosen
+pub pick-case : (test : Bool) (T E C : Type 0) → (test ≡ true → T → C) → (test ≡ false → E → C) → pick test T E → C
+unfolding pick
+pick-case true T E C yes-case no-case promise = yes-case refl promise
+pick-case false T E C yes-case no-case promise = no-case refl promise
+
 -- two promises chosen by the same test are both the one or both the other
 pub pick-alike : (test : Bool) (T U E F C : Type 0) → (T → U → C) → (E → F → C) → pick test T E → pick test U F → C
 unfolding pick

@@ -35,7 +35,7 @@ module _ (bytes : List ℕ) (are : Bytes bytes) where
   pub tasks-within : judged bytes .sheet .tally .tasks ≤ taskLimit
   tasks-within = within (judged bytes .answer) refl .1
 
-  -- many cells are enough for 64 rows and every horizon that is in range
+  -- many cells are enough for every sheet, of which none has 64 rows, and every horizon that is in range
   many-enough : (horizon : ℕ) → horizon ≤ longestTime → roomFor bytes (horizon + 1) ≤ 4194304
   many-enough horizon range = mul-le-mul {n₂ = 64} {m₂ = 65536} (omega (arith, within (judged bytes .answer) refl .0)) (omega arith)
 

@@ -1,9 +1,12 @@
--- Whether what was lent was enough for an answer.
+-- Whose answer is printed, and whether what was lent for it was enough.
 use Prim.Native.Nat.{ℕ, _≤_}
 use mathlib.Core.Path.{_≡_}
 use mathlib.Core.Bool.{Bool, false}
+use mathlib.Core.List.{List}
 use lib.Dec.{eqb}
 use Rattle.meaning.specs.Demand.{longestTime}
+use Rattle.explain.specs.Calls.{ExplainCall}
+use Rattle.explain.specs.declared.Explained.{Explained}
 use Rattle.explain.specs.declared.ExplainAnswer.{ExplainAnswer}
 use Rattle.explain.specs.declared.ExplainAnswer.the-variants.{Holds, NoInterval, Fails, Refused}
 
@@ -24,3 +27,8 @@ HadRoom (Holds margin interval) = Unit
 HadRoom NoInterval = Unit
 HadRoom (Fails interval cause engine excess count) = count ≤ areaSize
 HadRoom (Refused number place) = (number ≡ 12 → ⊥) × (number ≡ 13 → ⊥)
+
+-- it is what `explain` answers for these bytes and this horizon, with its witness in the area, in whatever cells
+abbrev pub IsExplained : List ℕ → ℕ → Explained → List ℕ → Type 0
+IsExplained bytes horizon explained area′ =
+    (cells : List ℕ) × (area : List ℕ) × (cells′ : List ℕ) × ExplainCall bytes horizon cells area explained cells′ area′

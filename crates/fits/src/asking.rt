@@ -7,10 +7,11 @@ use explain::Explained;
 use explain::explain;
 ghost use mathlib.Core.Path.{_≡_};
 ghost use mathlib.Core.Bool.{false};
-ghost use Rattle.fits.specs.Room.{tooFew, HadRoom};
+ghost use Rattle.fits.specs.Room.{tooFew, HadRoom, IsExplained};
 
 // Few cells can be too few, which the answer then says. The area takes every witness.
 pub(crate) fn ask_in_few(bytes: &[u8], horizon: u64, area: &mut [u8; AREA]) -> Explained
+    ensures { λ r. ⌜ IsExplained (now (bytes .entry)) horizon r (now (area .exit)) ⌝ }
     ensures { λ r. ⌜ (tooFew (r .answer) ≡ false → HadRoom (r .answer)) ⌝ }
 {
     let mut cells = [0u32; FEW];
@@ -18,6 +19,7 @@ pub(crate) fn ask_in_few(bytes: &[u8], horizon: u64, area: &mut [u8; AREA]) -> E
 }
 
 fn lend_few(bytes: &[u8], horizon: u64, cells: &mut [u32; FEW], area: &mut [u8; AREA]) -> Explained
+    ensures { λ r. ⌜ IsExplained (now (bytes .entry)) horizon r (now (area .exit)) ⌝ }
     ensures { λ r. ⌜ (tooFew (r .answer) ≡ false → HadRoom (r .answer)) ⌝ }
 {
     explain(bytes, horizon, cells, area)
@@ -25,6 +27,7 @@ fn lend_few(bytes: &[u8], horizon: u64, cells: &mut [u32; FEW], area: &mut [u8; 
 
 // Many cells are enough for every sheet and every horizon, so there is no refusal 12 and no 13.
 pub(crate) fn ask_in_many(bytes: &[u8], horizon: u64, area: &mut [u8; AREA]) -> Explained
+    ensures { λ r. ⌜ IsExplained (now (bytes .entry)) horizon r (now (area .exit)) ⌝ }
     ensures { λ r. ⌜ HadRoom (r .answer) ⌝ }
 {
     let mut cells = [0u32; MANY];
@@ -37,6 +40,7 @@ fn lend_many(
     cells: &mut [u32; MANY],
     area: &mut [u8; AREA],
 ) -> Explained
+    ensures { λ r. ⌜ IsExplained (now (bytes .entry)) horizon r (now (area .exit)) ⌝ }
     ensures { λ r. ⌜ HadRoom (r .answer) ⌝ }
 {
     explain(bytes, horizon, cells, area)

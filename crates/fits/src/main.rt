@@ -11,15 +11,16 @@ use explain::Explained;
 use fields::values::Sheet;
 use libc::STDIN_FILENO;
 use libc::STDOUT_FILENO;
+use words::DIGITS;
 use words::Word;
 use words::number_of;
 ghost use Prim.Native.Nat.{_≤_};
-ghost use Rattle.fits.specs.Room.{areaSize, HadRoom};
+ghost use Rattle.fits.specs.Room.{areaSize, HadRoom, IsExplained};
 
 // The longest sheet that is read.
 const LONGEST: usize = 65536;
 
-// The cells to work in: few, for which an ordinary stack is enough, or as many as 64 rows take up to the longest horizon.
+// The cells to work in: few, for which an ordinary stack is enough, or as many as 64 rows take up to the longest horizon, twice what a sheet has today.
 const FEW: usize = 1000000;
 
 const MANY: usize = 4194304;
@@ -50,7 +51,8 @@ fn horizon_asked() -> Word {
     if 2 < count {
         return Word::NoNumber;
     }
-    let mut word = [0u8; 8];
+    // a word that is longer than this is handed over as an empty one
+    let mut word = [0u8; DIGITS];
     let size = os::arg(1, &mut word);
     number_of(&word[..size])
 }
@@ -87,6 +89,7 @@ fn print_asked(bytes: &[u8], horizon: u64, many: bool) {
 }
 
 fn print_explained(bytes: &[u8], horizon: u64, explained: Explained, area: &[u8; AREA])
+    requires { ⌜ IsExplained (now bytes) horizon explained (now area) ⌝ }
     requires { ⌜ HadRoom (explained .answer) ⌝ }
 {
     let answer = explained.answer;

@@ -2,13 +2,13 @@
 ghost use Rattle.fits.specs.Numbers.{Says};
 
 // Which number a word is, or that it is none.
-pub enum Word {
+pub(crate) enum Word {
     Number { value: u64 },
     NoNumber,
 }
 
 // The most digits of a number.
-const DIGITS: usize = 5;
+pub(crate) const DIGITS: usize = 5;
 
 // Digit by digit: 1 to 5 of them, the first no 0 unless it is the only one.
 pub(crate) fn number_of(word: &[u8]) -> Word

@@ -9,12 +9,15 @@ use lib.Arith.{digits-lt}
 use lib.ListN.{length, set}
 use Rattle.meaning.specs.Graph.{Graph, Sound}
 use Rattle.meaning.specs.Cells.{ByInterval, Filled}
-use Rattle.meaning.specs.Computed.{cellAt, maxBelow}
+use Rattle.meaning.specs.Computed.{cellAt}
 use Rattle.meaning.specs.Demand.{IsDemand}
 use Rattle.meaning.proofs.Tests.{lt-or}
 use Rattle.meaning.proofs.ByInterval.{demand-is}
 use Rattle.meaning.proofs.Filling.{filled-none, filled-one}
-use Rattle.tables.specs.Lines.{HasLines}
+use Rattle.sheet.specs.Meaning.{graphOf}
+use Rattle.sheet.specs.Ready.{Ready}
+use Rattle.fields.specs.declared.values.Sheet.{Sheet}
+use Rattle.tables.specs.Lines.{HasLines, demandIn}
 
 -- a cell of one of the lines has its place before their end
 pub in-lines : (n line lines k used : ℕ) → line < lines → k < n → n * lines ≤ used → line * n + k < used
@@ -87,5 +90,12 @@ filled-lines n Right lines old cells room filled = record {
 
 -- demand is the largest cell of a line by interval
 pub line-demand : (g : Graph) → Sound g → (cells : List ℕ) (lines : ℕ) → HasLines (g .rows) (ByInterval g) cells lines → (t : ℕ) → t < lines
-    → IsDemand g t (maxBelow (g .rows) (cellAt (g .rows) cells t))
+    → IsDemand g t (demandIn (g .rows) cells t)
 line-demand g sound cells lines table t h = demand-is g sound t (cellAt (g .rows) cells t) (λ k l. table .right t k h l)
+
+-- and so it is of the graph of a sheet
+pub sheet-demand : (bytes : List ℕ) (sheet : Sheet) → Ready bytes sheet → (cells : List ℕ) (lines : ℕ)
+    → HasLines (sheet .tally .rows) (ByInterval (graphOf bytes sheet)) cells lines → (t : ℕ) → t < lines
+    → IsDemand (graphOf bytes sheet) t (demandIn (sheet .tally .rows) cells t)
+unfolding graphOf
+sheet-demand bytes sheet ready = line-demand (graphOf bytes sheet) (ready .sound)

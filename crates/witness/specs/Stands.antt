@@ -6,7 +6,7 @@ use mathlib.Core.Path.{_≡_}
 use lib.Dec.{eqb}
 use lib.ListN.{length, drop}
 use Rattle.meaning.specs.Computed.{maxBelow, seek, cellAt, viaAt}
-use Rattle.beginning.specs.Beginning.{WitnessShown}
+use Rattle.beginning.specs.Showing.{WitnessShown}
 use Rattle.witness.specs.declared.Shown.{Shown}
 use Rattle.witness.specs.declared.Shown.the-variants.{Rows, TooLong}
 use Rattle.witness.specs.declared.Stand.{Stand}

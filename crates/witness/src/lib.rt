@@ -27,7 +27,7 @@ pub struct Stand {
     pub work: u32,
 }
 
-// How many rows a witness has that was written, or that they do not fit.
+// How many rows a witness has that was written, or that it does not fit its area.
 pub enum Shown {
     Rows(usize),
     TooLong,
@@ -44,8 +44,7 @@ pub fn show_witness(bytes: &[u8], sheet: Sheet, cells: &[u32], t: usize, area: &
     if area.len() < count {
         return Shown::TooLong;
     }
-    write_witness(bytes, sheet, cells, t, area);
-    Shown::Rows(count)
+    Shown::Rows(write_witness(bytes, sheet, cells, t, area))
 }
 
 // How many rows the witness at t has.

@@ -25,7 +25,7 @@ returns : tie.Need-returns
 unfolding ExplainCall
 returns c =
     let b = c .before .before .before .before .before .begin-interval in
-    begun-refused _ _ (b .result) (b .ensures) _ _ (c .before .before .answer .given .1) _ _ (c .plain .ensures, refl, refl)
+    begun-refused _ _ (b .result) (b .ensures) _ _ (c .before .before .answer .given .1) _ _ (c .without-demands .ensures, refl, refl)
 
 returns-2 : tie.Need-returns-2
 unfolding ExplainCall

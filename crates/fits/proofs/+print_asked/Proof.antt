@@ -50,7 +50,9 @@ print-explained-requires : (t : ℕ) → lts.Need-print-explained-requires (call
 print-explained-requires t c κs = c .before .ask-in-many .ensures
 
 print-explained-requires-2 : (t : ℕ) → lts.Need-print-explained-requires-2 (called t) (at t) print-asked.Post
-print-explained-requires-2 t c κs = c .before .before .before .ask-in-few .ensures (sym (c .before .before .too-few .ensures) ∙ c .before .if2 .left)
+print-explained-requires-2 t c κs =
+    let asked = c .before .before .before .ask-in-few .ensures in
+    (asked .0, asked .1 (sym (c .before .before .too-few .ensures) ∙ c .before .if2 .left))
 
 pub +print-asked-spec : {M : Type 1} → statement M
 +print-asked-spec =

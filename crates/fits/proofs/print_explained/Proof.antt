@@ -8,7 +8,7 @@ use Rattle.fits.proofs.print_explained.Tie as tie
 print-rows-requires : tie.Need-print-rows-requires
 print-rows-requires c κs =
     let a = c .before .before .before .before .before .before .before in
-    subst HadRoom (a .answer3 .given .1) (a .before .before .before .pre)
+    subst HadRoom (a .answer3 .given .1) (a .before .before .before .pre .1)
 
 pub print-explained-spec : {M : Type 1} → statement M
 print-explained-spec =

@@ -8,7 +8,7 @@ use Rattle.witness.specs.declared.Shown.the-variants.{Rows, TooLong}
 use borrow.Author.Needs.{needs}
 use denote.Ref.{now}
 use lib.ListN.{length}
-use mathlib.Core.Path.{_≡_, ap}
+use mathlib.Core.Path.{_≡_, refl, ap}
 use native.Mathlib.Omega.{arith}
 use Rattle.witness.proofs.show_witness.Tie as tie
 
@@ -27,7 +27,7 @@ fits c = omega (arith, counted (c .before), c .if1 .left)
 returns : tie.Need-returns
 returns c =
     let a = c .before .before .before .before .before .args in
-    shown-too-long (witnessOf (graphOf (now (a .bytes)) (a .sheet)) (a .t)) (now (a .area)) _ _ (omega (arith, counted (c .before), c .if1 .taken))
+    shown-too-long (witnessOf (graphOf (now (a .bytes)) (a .sheet)) (a .t)) (now (a .area)) _ _ _ _ (omega (arith, counted (c .before), c .if1 .taken)) refl refl
 
 write-witness-requires : tie.Need-write-witness-requires
 write-witness-requires c κs =
@@ -38,7 +38,8 @@ returns-2 : tie.Need-returns-2
 returns-2 c =
     let e = c .before .before .before .before in
     let a = e .before .before .before .before .before .args in
-    shown-written (witnessOf (graphOf (now (a .bytes)) (a .sheet)) (a .t)) (now (a .area)) _ TooLong _ _ (fits e) (ap Rows (counted (e .before))) (c .before .before .write-witness .ensures .is)
+    let written = c .before .before .write-witness .ensures in
+    shown-written (witnessOf (graphOf (now (a .bytes)) (a .sheet)) (a .t)) (now (a .area)) _ TooLong _ _ (fits e) (ap Rows (written .counted)) (written .is)
 
 pub show-witness-spec : {M : Type 1} → statement M
 show-witness-spec =

@@ -7,7 +7,8 @@ use native.Mathlib.Nat.{add-sub-cancel}
 use native.Mathlib.Omega.{arith}
 use Rattle.meaning.proofs.Tests.{lt-or}
 use Rattle.demand.proofs.Horizons.{lines-upto}
-use Rattle.demand.specs.Rising.{demandIn, Rises}
+use Rattle.demand.specs.Rising.{Rises}
+use Rattle.tables.specs.Lines.{demandIn}
 use Rattle.demand.proofs.steps.next_rise.Statement.{statement}
 use Rattle.demand.proofs.steps.next_rise.Tie as tie
 

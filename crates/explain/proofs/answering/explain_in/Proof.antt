@@ -89,13 +89,13 @@ returns : tie.Need-returns
 returns c =
     let s = c .before .before .before .before .before .before .before .before .before .before .before .before in
     none-told _ _ (s .pre .1 .0) (s .pre .0) _ _ _ _ (filled (c .before .before .before .before .before .before .before)) _
-    (shows (c .before .before .before) _ (c .before .enum-told .given .1)) (c .plain .ensures)
+    (shows (c .before .before .before) _ (c .before .enum-told .given .1)) (c .without-demands .ensures)
 
 returns-2 : tie.Need-returns-2
 returns-2 c =
     let s = c .before .before .before .before .before .before .before .before .before .before .before .before .before in
     margin-told _ _ (s .pre .1 .0) (s .pre .0) _ _ _ _ (filled (c .before .before .before .before .before .before .before .before)) _
-    _ _ (shows (c .before .before .before .before) _ (c .before .before .margin .given .1)) (c .plain2 .ensures)
+    _ _ (shows (c .before .before .before .before) _ (c .before .before .margin .given .1)) (c .without-demands2 .ensures)
 
 returns-3 : tie.Need-returns-3
 returns-3 c =

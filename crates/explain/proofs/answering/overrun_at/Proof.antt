@@ -20,7 +20,7 @@ returns c =
     let a = c .before .before .before .before .before .before .before .args in
     let cause = c .before .before .before .cause-of in
     too-long-told (a .sheet) (now (a .cells)) (a .t) (a .fixed) _ (cause .result) (a .shown) (c .before .before .before .before .demand-of .ensures) (cause .ensures)
-    _ (c .before .enum-told .given .1) (c .plain .ensures)
+    _ (c .before .enum-told .given .1) (c .without-demands .ensures)
 
 returns-2 : tie.Need-returns-2
 returns-2 c =

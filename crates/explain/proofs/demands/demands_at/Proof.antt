@@ -2,7 +2,6 @@
 use Prim.Native.Nat.{_-_, _≤_, _<_}
 use Rattle.explain.proofs.TaskDemands.{demandsUpTo, demand-more, demands-whole}
 use Rattle.explain.proofs.demands.demands_at.Statement.{statement}
-use Rattle.explain.specs.Reasons.{eachDemand}
 use Rattle.fields.specs.Limits.{taskLimit}
 use Rattle.sheet.specs.Meaning.{tasksOf}
 use borrow.Author.Needs.{needs}
@@ -17,7 +16,6 @@ abbrev μ-loop : tie.MeasureT-loop
 μ-loop t sheet count demands₀ i₀ demands i = count - i
 
 loop-holds : tie.Need-loop-holds Inv-loop μ-loop
-unfolding eachDemand
 loop-holds c = (omega arith, refl)
 
 -- the task of the turn is in the array

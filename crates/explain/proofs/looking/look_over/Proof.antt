@@ -1,12 +1,13 @@
 -- `look_over` meets its contract. Fixed demand runs along with the intervals, none of those passed is overrun, and the smallest margin is theirs.
 use Prim.Native.Nat.{_+_, _-_, _*_, _^_, _≤_, _<_}
-use Rattle.explain.proofs.Narrowing.{LookingOver, looking-start, looking-smaller, looking-kept, looking-overrun, looking-nothing, looking-smallest, sheet-demand}
+use Rattle.explain.proofs.Narrowing.{LookingOver, looking-start, looking-smaller, looking-kept, looking-overrun, looking-nothing, looking-smallest}
 use Rattle.explain.proofs.looking.look_over.Statement.{statement}
 use Rattle.overruns.proofs.Releases.{Running}
 use Rattle.overruns.proofs.SheetTasks.{running-start}
 use Rattle.overruns.proofs.Sweeping.{sheet-decides, running-next}
 use Rattle.sheet.proofs.ProperTasks.{tasks-count, tasks-fit}
 use Rattle.sheet.specs.Meaning.{tasksOf}
+use Rattle.tables.proofs.Lines.{sheet-demand}
 use Rattle.tables.specs.declared.Table.the-variants.{Interval}
 use borrow.Author.Needs.{needs}
 use lib.ListN.{length}
@@ -94,7 +95,7 @@ returns-3 : tie.Need-returns-3 Inv-loop μ-loop
 returns-3 c =
     let s = c .before .before .before .before .before .before .before .before .before in
     λ bytes ready lines. looking-smallest _ _ _ _ _ _ _ _ _ _ _ _ (c .before .before .loop .inv) (c .before .loop-test .left) _ (count s) (begun (c .before .before .before))
-    (omega (arith, c .if3 .left)) _ (sheet-decides Interval bytes _ ready _ _ (s .pre .1 .0) lines) (sheet-demand bytes _ ready _ _ lines)
+    (omega (arith, c .if3 .left)) _ (sheet-decides Interval bytes _ ready _ _ (s .pre .1 .0) lines) (λ u h. sheet-demand bytes _ ready _ _ lines u (omega arith))
 
 pub look-over-spec : {M : Type 1} → statement M
 look-over-spec =
