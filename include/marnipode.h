@@ -31,8 +31,8 @@ extern "C" {
 #endif
 
 /* The version of this header and its archive; as a number, 1.2.3 is 10203. CHANGELOG.md says what a new one changes. */
-#define MARNIPODE_VERSION "1.1.0"
-#define MARNIPODE_VERSION_NUMBER 10100
+#define MARNIPODE_VERSION "1.2.0"
+#define MARNIPODE_VERSION_NUMBER 10200
 
 /* The most modes, rows and fixed tasks of a sheet, and the most bytes of its label. */
 #define MARNIPODE_MOST_MODES 8

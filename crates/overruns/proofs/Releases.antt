@@ -40,7 +40,7 @@ pub record Running (tasks : List Task) (lengths periods dues : List ℕ) (t sum 
 
 module _ (task : Task) (positive : 1 ≤ task .period) where
   -- fixed demand at t is one length for each job that fell due by then
-  fixed-by-jobs : (t due : ℕ) (next : NextDue task t due) → fixedOf task t ≡ task .length * next .jobs
+  pub fixed-by-jobs : (t due : ℕ) (next : NextDue task t due) → fixedOf task t ≡ task .length * next .jobs
   fixed-by-jobs t due next =
       ⊎-elim
       (λ l. omega (arith, fixed-before task t l, ap (λ (j : ℕ). task .length * j) (before l (next .jobs) refl)))
@@ -64,7 +64,7 @@ module _ (task : Task) (positive : 1 ≤ task .period) where
 
   module _ (t due : ℕ) (next : NextDue task t due) where
     -- where its next job falls due at t + 1, demand grows by its length, and the job after that comes a period later
-    due-now : due ≡ t + 1 → NextDue task (t + 1) (t + 1 + task .period) × (fixedOf task (t + 1) ≡ fixedOf task t + task .length)
+    pub due-now : due ≡ t + 1 → NextDue task (t + 1) (t + 1 + task .period) × (fixedOf task (t + 1) ≡ fixedOf task t + task .length)
     due-now e =
         let later : NextDue task (t + 1) (t + 1 + task .period) = record {
           jobs = next .jobs + 1;

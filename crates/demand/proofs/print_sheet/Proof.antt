@@ -16,7 +16,7 @@ print-accepted-requires c κs =
     let bytes = now (j .before .before .args .bytes) in
     let accepted : judged bytes .answer ≡ Accepted = sym (ap (λ (j : Judged). j .answer) (j .judge .ensures)) ∙ c .before .enum-told .given .1 in
     let proper = accepted-proper bytes (λ i. omega (arith, j .before .shared-slice-known .given i)) accepted in
-    rw (j .judge .ensures) (proper .rows-some, proper .rows-most)
+    (accepted, (ap (λ (j : Judged). j .sheet .tally .rows) (j .judge .ensures), rw (j .judge .ensures) (proper .rows-some, proper .rows-most)))
 
 pub print-sheet-spec : {M : Type 1} → statement M
 print-sheet-spec =

@@ -1,0 +1,74 @@
+// Which cells a question is lent: few where they are enough, else many.
+use crate::AREA;
+use crate::FEW;
+use crate::MANY;
+use fields::values::Sheet;
+use sheet::judge;
+use telling::tell;
+use words::Question;
+ghost use mathlib.Core.Path.{_≡_};
+ghost use mathlib.Core.Bool.{false};
+ghost use Prim.Native.Nat.{_+_, _≤_};
+ghost use Rattle.meaning.specs.Demand.{longestTime};
+ghost use Rattle.telling.specs.Room.{linesFor, HasRoom};
+
+// Whether few cells are too few. A number that is out of range takes none.
+pub(crate) fn needs_many(bytes: &[u8], question: Question, number: u64) -> bool
+    ensures { λ r. ⌜ (r ≡ false → HasRoom (now (bytes .entry)) question number 1000000) ⌝ }
+{
+    if (Sheet::TICKS.0 as u64) + 1 < number {
+        return false;
+    }
+    let judged = judge(bytes);
+    let tally = judged.sheet.tally;
+    FEW < tally.rows * lines_for(question, number)
+}
+
+fn lines_for(question: Question, number: u64) -> usize
+    requires { ⌜ number ≤ longestTime + 1 ⌝ }
+    ensures { λ r. ⌜ r ≡ linesFor question number ⌝ }
+{
+    let lines = number as usize;
+    match question {
+        Question::Fits => lines + 1,
+        Question::Curve => lines + 1,
+        Question::Chart => lines + 1,
+        Question::At => lines + 1,
+        Question::Shortest => lines,
+    }
+}
+
+pub(crate) fn in_few(bytes: &[u8], question: Question, number: u64, area: &mut [u8; AREA])
+    requires { ⌜ HasRoom (now bytes) question number 1000000 ⌝ }
+{
+    let mut cells = [0u32; FEW];
+    lend_few(bytes, question, number, &mut cells, area);
+}
+
+fn lend_few(
+    bytes: &[u8],
+    question: Question,
+    number: u64,
+    cells: &mut [u32; FEW],
+    area: &mut [u8; AREA],
+)
+    requires { ⌜ HasRoom (now bytes) question number 1000000 ⌝ }
+{
+    tell(bytes, question, number, cells, area);
+}
+
+// Many cells are enough for every sheet and every number that is in range.
+pub(crate) fn in_many(bytes: &[u8], question: Question, number: u64, area: &mut [u8; AREA]) {
+    let mut cells = [0u32; MANY];
+    lend_many(bytes, question, number, &mut cells, area);
+}
+
+fn lend_many(
+    bytes: &[u8],
+    question: Question,
+    number: u64,
+    cells: &mut [u32; MANY],
+    area: &mut [u8; AREA],
+) {
+    tell(bytes, question, number, cells, area);
+}

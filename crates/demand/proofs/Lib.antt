@@ -1,2 +1,0 @@
-pub mod Horizons
-pub mod Printing

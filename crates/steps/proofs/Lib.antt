@@ -1,0 +1,3 @@
+pub mod Horizons
+pub mod Rising
+pub mod Releases

@@ -1,0 +1,85 @@
+// The steps of a curve: up to which horizon they are read, and at which intervals the engine's demand, or fixed demand, rises.
+use fields::values::Sheet;
+use fields::values::Task;
+use tables::interval::demand_of;
+ghost use Prim.Native.Nat.{_+_, _*_, _≤_, min};
+ghost use mathlib.Core.Path.{_≡_};
+ghost use lib.ListN.{length};
+ghost use Rattle.meaning.specs.Demand.{longestTime};
+ghost use Rattle.meaning.specs.Fixed.{fixedOf, fixedSum};
+ghost use Rattle.sheet.specs.Meaning.{timesOf, tasksOf};
+ghost use Rattle.tables.specs.Lines.{demandIn};
+ghost use Rattle.overruns.specs.Releases.{IsProper};
+ghost use Rattle.steps.specs.Rising.{IsHorizon, IsNextRise};
+
+// The largest horizon whose lines fit a number of cells.
+pub fn horizon_of(cells: usize, rows: usize) -> usize
+    requires { ⌜ 1 ≤ rows ⌝ }
+    requires { ⌜ rows ≤ cells ⌝ }
+    ensures { λ r. ⌜ IsHorizon cells rows r ⌝ }
+{
+    let lines = cells / rows;
+    let longest = Sheet::TICKS.0 as usize;
+    if longest < lines { longest } else { lines - 1 }
+}
+
+// The first interval from one on at which the engine's demand rises, one past the horizon where there is none.
+pub fn next_rise(cells: &[u32], rows: usize, horizon: usize, from: usize) -> usize
+    requires { ⌜ horizon ≤ longestTime ⌝ }
+    requires { ⌜ rows * (horizon + 1) ≤ length (now cells) ⌝ }
+    requires { ⌜ (1 ≤ from) × (from ≤ horizon + 1) ⌝ }
+    ensures { λ r. ⌜ IsNextRise (demandIn rows (now (cells .entry))) horizon from r ⌝ }
+{
+    let mut interval = from;
+    let mut last = demand_of(cells, rows, from - 1);
+    while interval <= horizon {
+        let amount = demand_of(cells, rows, interval);
+        if last < amount {
+            return interval;
+        }
+        last = amount;
+        interval += 1;
+    }
+    interval
+}
+
+// The same for the demand of all fixed tasks: the soonest of where the demand of each rises.
+pub fn next_fixed_rise(sheet: Sheet, horizon: usize, from: usize) -> usize
+    requires { ⌜ IsProper sheet ⌝ }
+    requires { ⌜ horizon ≤ longestTime ⌝ }
+    requires { ⌜ (1 ≤ from) × (from ≤ horizon + 1) ⌝ }
+    ensures { λ r. ⌜ IsNextRise (fixedSum (tasksOf sheet)) horizon from r ⌝ }
+{
+    let tally = sheet.tally;
+    let count = tally.tasks;
+    let mut next = horizon + 1;
+    let mut i: usize = 0;
+    while i < count {
+        let task = sheet.tasks[i];
+        next = sooner(next, next_due(task, horizon, from));
+        i += 1;
+    }
+    next
+}
+
+// The same for the demand of one fixed task, which rises where a job of it falls due: at its deadline, and a period after each before.
+fn next_due(task: Task, horizon: usize, from: usize) -> usize
+    requires { ⌜ (1 ≤ task .length .0) × (1 ≤ task .period .0) × (1 ≤ task .deadline .0) ⌝ }
+    requires { ⌜ horizon ≤ longestTime ⌝ }
+    requires { ⌜ (1 ≤ from) × (from ≤ horizon + 1) ⌝ }
+    ensures { λ r. ⌜ IsNextRise (fixedOf (timesOf task)) horizon from r ⌝ }
+{
+    let first = task.deadline.0 as usize;
+    if from <= first {
+        return sooner(first, horizon + 1);
+    }
+    let period = task.period.0 as usize;
+    let jobs = (from - first - 1) / period + 1;
+    sooner(first + jobs * period, horizon + 1)
+}
+
+fn sooner(first: usize, second: usize) -> usize
+    ensures { λ r. ⌜ r ≡ min first second ⌝ }
+{
+    if second < first { second } else { first }
+}

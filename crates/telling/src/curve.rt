@@ -1,0 +1,73 @@
+// The curve up to a horizon, and for a chart also where fixed demand rises.
+use desk::VerdictAnswer;
+use desk::verdict_by_interval;
+use fields::values::Sheet;
+use overruns::tasks::fixed_sum;
+use printing::print_curve;
+use printing::print_rise;
+use printing::print_verdict;
+use sheet::judge;
+use steps::next_fixed_rise;
+ghost use Prim.Native.Nat.{_≤_};
+ghost use mathlib.Core.Path.{_≡_};
+ghost use lib.ListN.{length};
+ghost use Rattle.meaning.specs.Demand.{longestTime};
+ghost use Rattle.overruns.specs.Releases.{IsProper};
+ghost use Rattle.words.specs.declared.Question.the-variants.{Curve};
+ghost use Rattle.telling.specs.Room.{HasRoom};
+ghost use Rattle.telling.specs.Told.{isRefused, CurveTold};
+
+pub(crate) fn tell_curve(bytes: &[u8], horizon: u64, cells: &mut [u32], with_fixed: bool)
+    requires { ⌜ HasRoom (now bytes) Curve horizon (length (now cells)) ⌝ }
+{
+    let verdict = find_curve(bytes, horizon, cells);
+    if refused(verdict) {
+        print_verdict(verdict);
+        return;
+    }
+    let judged = judge(bytes);
+    let sheet = judged.sheet;
+    let tally = sheet.tally;
+    print_curve(bytes, cells, tally.rows, horizon as usize);
+    if with_fixed {
+        print_fixed(sheet, horizon as usize);
+    }
+    print_verdict(verdict);
+}
+
+// One table of cells serves the verdict and the steps.
+fn find_curve(bytes: &[u8], horizon: u64, cells: &mut [u32]) -> VerdictAnswer
+    requires { ⌜ HasRoom (now bytes) Curve horizon (length (now cells)) ⌝ }
+    ensures { λ r. ⌜ CurveTold (now (bytes .entry)) horizon (now (cells .exit)) r ⌝ }
+{
+    verdict_by_interval(bytes, horizon, cells)
+}
+
+fn refused(verdict: VerdictAnswer) -> bool
+    ensures { λ r. ⌜ r ≡ isRefused verdict ⌝ }
+{
+    match verdict {
+        VerdictAnswer::Holds => false,
+        VerdictAnswer::Overrun { interval: _ } => false,
+        VerdictAnswer::Refused {
+            number: _,
+            place: _,
+        } => true,
+    }
+}
+
+// A line for each interval up to the horizon at which the demand of the fixed tasks rises.
+fn print_fixed(sheet: Sheet, horizon: usize)
+    requires { ⌜ IsProper sheet ⌝ }
+    requires { ⌜ horizon ≤ longestTime ⌝ }
+{
+    let mut interval = next_fixed_rise(sheet, horizon, 1);
+    while interval <= horizon {
+        print_fixed_rise(interval, fixed_sum(sheet, interval));
+        interval = next_fixed_rise(sheet, horizon, interval + 1);
+    }
+}
+
+fn print_fixed_rise(interval: usize, amount: u64) {
+    print_rise(b"fixed ", interval, amount);
+}
