@@ -1,3 +1,3 @@
-pub mod Counts
 pub mod Signs
 pub mod Told
+pub mod Within

@@ -1,4 +1,5 @@
 // The curve up to a horizon, and for a chart also where fixed demand rises.
+use crate::counts::rows_of;
 use desk::VerdictAnswer;
 use desk::verdict_by_interval;
 use fields::values::Sheet;
@@ -12,6 +13,8 @@ ghost use Prim.Native.Nat.{_≤_};
 ghost use mathlib.Core.Path.{_≡_};
 ghost use lib.ListN.{length};
 ghost use Rattle.meaning.specs.Demand.{longestTime};
+ghost use Rattle.sheet.specs.Judging.{judged};
+ghost use Rattle.sheet.specs.declared.Answer.the-variants.{Accepted};
 ghost use Rattle.overruns.specs.Releases.{IsProper};
 ghost use Rattle.words.specs.declared.Question.the-variants.{Curve};
 ghost use Rattle.telling.specs.Room.{HasRoom};
@@ -25,12 +28,9 @@ pub(crate) fn tell_curve(bytes: &[u8], horizon: u64, cells: &mut [u32], with_fix
         print_verdict(verdict);
         return;
     }
-    let judged = judge(bytes);
-    let sheet = judged.sheet;
-    let tally = sheet.tally;
-    print_curve(bytes, cells, tally.rows, horizon as usize);
+    print_curve(bytes, cells, rows_of(bytes), horizon as usize);
     if with_fixed {
-        print_fixed(sheet, horizon as usize);
+        print_fixed(bytes, horizon as usize);
     }
     print_verdict(verdict);
 }
@@ -56,8 +56,17 @@ fn refused(verdict: VerdictAnswer) -> bool
     }
 }
 
+fn print_fixed(bytes: &[u8], horizon: usize)
+    requires { ⌜ judged (now bytes) .answer ≡ Accepted ⌝ }
+    requires { ⌜ horizon ≤ longestTime ⌝ }
+{
+    let judged = judge(bytes);
+    let sheet = judged.sheet;
+    print_fixed_rises(sheet, horizon);
+}
+
 // A line for each interval up to the horizon at which the demand of the fixed tasks rises.
-fn print_fixed(sheet: Sheet, horizon: usize)
+fn print_fixed_rises(sheet: Sheet, horizon: usize)
     requires { ⌜ IsProper sheet ⌝ }
     requires { ⌜ horizon ≤ longestTime ⌝ }
 {

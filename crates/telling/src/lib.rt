@@ -1,5 +1,6 @@
 // What is printed for each question about a sheet, in cells and an area that are lent.
 mod at;
+mod counts;
 mod curve;
 mod shortest;
 mod why;

@@ -1,5 +1,6 @@
 // Whether a sheet holds up to a horizon, and why.
 use crate::at::print_rows;
+use crate::counts::tasks_of;
 use explain::Cause;
 use explain::ExplainAnswer;
 use explain::Explained;
@@ -12,6 +13,7 @@ use printing::print_refusal;
 ghost use Prim.Native.Nat.{_≤_};
 ghost use lib.ListN.{length};
 ghost use Rattle.meaning.specs.Demand.{longestTime};
+ghost use Rattle.fields.specs.Limits.{taskLimit};
 ghost use Rattle.words.specs.declared.Question.the-variants.{Fits};
 ghost use Rattle.telling.specs.Room.{HasRoom};
 ghost use Rattle.telling.specs.Told.{ExplainTold};
@@ -55,7 +57,7 @@ fn print_explained(bytes: &[u8], horizon: u64, explained: Explained, area: &[u8]
             print_number(b"engine ", engine as u64);
             print_rows(area, count);
             let demands = explained.demands;
-            print_tasks(bytes, demands);
+            print_tasks(tasks_of(bytes), demands);
             print_number(b"excess ", excess);
         }
     }
@@ -75,11 +77,10 @@ fn print_cause(cause: Cause) {
     }
 }
 
-// What each of the sheet's fixed tasks asks for.
-fn print_tasks(bytes: &[u8], demands: [u64; Sheet::TASKS]) {
-    let judged = sheet::judge(bytes);
-    let tally = judged.sheet.tally;
-    let tasks = tally.tasks;
+// What each of a number of fixed tasks asks for.
+fn print_tasks(tasks: usize, demands: [u64; Sheet::TASKS])
+    requires { ⌜ tasks ≤ taskLimit ⌝ }
+{
     let mut i: usize = 0;
     while i < tasks {
         io::write_all(STDOUT_FILENO, b"task ");

@@ -2,33 +2,26 @@
 use borrow.Author.Needs.{needs}
 use denote.Ref.{now}
 use mathlib.Core.Path.{sym, _∙_}
-use native.Mathlib.Omega.{arith}
 use Rattle.meaning.specs.Verdict.{Verdict}
-use Rattle.sheet.proofs.Accepted.{accepted-proper}
 use Rattle.telling.specs.Told.{CurveOf}
 use Rattle.telling.proofs.Told.{curve-there}
 use Rattle.telling.proofs.curve.tell_curve.Statement.{statement}
 use Rattle.telling.proofs.curve.tell_curve.Tie as tie
 
 -- where it goes on, there is a curve
-there : (c : tie.After-print-curve-arg) →
-    let f = c .before .before .before .before .before .before .before .before in
+there : (c : tie.After-rows-of) →
+    let f = c .before .before .before .before .before .before in
     let s = f .before .before .before .before in
     (v : Verdict) × CurveOf (now (s .args .bytes)) (s .args .horizon) (f .find-curve .last .1 .1 .0) v
 there c =
-    let f = c .before .before .before .before .before .before .before .before in
-    curve-there _ _ _ (f .find-curve .result) (sym (c .before .before .before .before .before .refused .ensures) ∙ c .before .before .before .before .if1 .left) (f .find-curve .ensures)
+    let f = c .before .before .before .before .before .before in
+    curve-there _ _ _ (f .find-curve .result) (sym (c .before .before .before .refused .ensures) ∙ c .before .before .if1 .left) (f .find-curve .ensures)
 
 print-curve-requires : tie.Need-print-curve-requires
-print-curve-requires c κs = rw (c .before .before .before .judge .ensures) (there c .1 .1)
+print-curve-requires c κs = rw (c .rows-of .ensures) (there c .1 .1)
 
 print-fixed-requires : tie.Need-print-fixed-requires
-print-fixed-requires c κs =
-    let a = c .before .before in
-    let s = a .before .before .before .before .before .before .before .before .before .before .before in (
-      (now (s .before .args .bytes), rw (a .before .before .before .judge .ensures) (accepted-proper _ (λ i. omega (arith, s .shared-slice-known .given i)) (there a .1 .0))),
-      there a .1 .1 .in-range,
-    )
+print-fixed-requires c κs = let curve = there (c .before .before) .1 in (curve .0, curve .1 .in-range)
 
 pub tell-curve-spec : {M : Type 1} → statement M
 tell-curve-spec =

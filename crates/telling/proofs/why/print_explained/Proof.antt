@@ -40,6 +40,7 @@ print-explained-spec =
     (λ c κs. search needs)
     print-rows-requires
     (λ c κs. search needs)
+    (λ c κs. search needs)
     (λ c. search needs)
     (λ c κs. search needs)
     (λ c. search needs)

@@ -1,26 +1,23 @@
--- `print_tasks` meets its contract: a judged sheet has no more tasks than there are demands.
+-- `print_tasks` meets its contract: there are no more tasks than demands.
 use Prim.Native.Nat.{_-_, _≤_, _<_}
 use borrow.Author.Needs.{needs}
 use native.Mathlib.Omega.{arith}
 use Rattle.fields.specs.Limits.{taskLimit}
-use Rattle.telling.proofs.Counts.{tasks-within}
 use Rattle.telling.proofs.why.print_tasks.Statement.{statement}
 use Rattle.telling.proofs.why.print_tasks.Tie as tie
 
 abbrev Inv-loop : tie.InvT-loop
-Inv-loop bytes demands tasks i₀ t8 t9 i = (i ≤ tasks) × (tasks ≤ taskLimit)
+Inv-loop tasks demands i₀ t5 t6 i = (i ≤ tasks) × (tasks ≤ taskLimit)
 
 abbrev μ-loop : tie.MeasureT-loop
-μ-loop bytes demands tasks i₀ t8 t9 i = tasks - i
+μ-loop tasks demands i₀ t5 t6 i = tasks - i
 
 -- the demand of a task that is printed stands in the array
 inside : (c : tie.In-loop Inv-loop μ-loop) → c .before .loop .i < taskLimit
 inside c = omega (arith, c .before .loop .inv .1, c .loop-test .taken)
 
 loop-holds : tie.Need-loop-holds Inv-loop μ-loop
-loop-holds c =
-    let j = c .before in
-    (omega arith, rw (j .judge .ensures) (tasks-within _ (λ i. omega (arith, j .before .shared-slice-known .given i))))
+loop-holds c = (omega arith, c .pre)
 
 read : tie.Need-array-read-print-number Inv-loop μ-loop
 read c = inside (c .before .before .before .before)
@@ -42,7 +39,6 @@ print-tasks-spec =
     (tie.spec
     Inv-loop
     μ-loop
-    (λ c κs. search needs)
     loop-holds
     (λ c. search needs)
     (λ c κs. search needs)
