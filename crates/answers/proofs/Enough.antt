@@ -11,8 +11,8 @@ use Rattle.fields.proofs.Deciding.{neither}
 use Rattle.sheet.specs.Proper.{Bytes}
 use Rattle.words.specs.declared.Question.{Question}
 use Rattle.words.specs.declared.Question.the-variants.{Fits, Curve, Chart, At, Shortest}
-use Rattle.telling.specs.Room.{outOfRange, linesFor, HasRoom}
-use Rattle.telling.proofs.Within.{rows-within}
+use Rattle.answers.specs.Room.{outOfRange, linesFor, HasRoom}
+use Rattle.sheet.proofs.Counts.{rows-within}
 
 -- a number that is in range takes no more lines than there are intervals up to the longest time
 pub few-lines : (question : Question) (number : ℕ) → outOfRange question number ≡ false → linesFor question number ≤ longestTime + 1

@@ -1,16 +1,20 @@
-// Which cells a question is lent: few where they are enough, else many.
+// Which cells a question is lent, few where they are enough and else many, and what answers it.
 use crate::AREA;
 use crate::FEW;
 use crate::MANY;
 use fields::values::Sheet;
 use sheet::judge;
-use telling::tell;
+use telling::tell_at;
+use telling::tell_curve;
+use telling::tell_shortest;
+use telling_why::tell_why;
 use words::Question;
 ghost use mathlib.Core.Path.{_≡_};
 ghost use mathlib.Core.Bool.{false};
 ghost use Prim.Native.Nat.{_+_, _≤_};
 ghost use Rattle.meaning.specs.Demand.{longestTime};
-ghost use Rattle.telling.specs.Room.{linesFor, HasRoom};
+ghost use lib.ListN.{length};
+ghost use Rattle.answers.specs.Room.{linesFor, HasRoom};
 
 // Whether few cells are too few. A number that is out of range takes none.
 pub(crate) fn needs_many(bytes: &[u8], question: Question, number: u64) -> bool
@@ -71,4 +75,28 @@ fn lend_many(
     area: &mut [u8; AREA],
 ) {
     tell(bytes, question, number, cells, area);
+}
+
+// The answer to a question that is asked with a number. A witness has at most a row for each tick.
+fn tell(bytes: &[u8], question: Question, number: u64, cells: &mut [u32], area: &mut [u8])
+    requires { ⌜ HasRoom (now bytes) question number (length (now cells)) ⌝ }
+    requires { ⌜ longestTime ≤ length (now area) ⌝ }
+{
+    match question {
+        Question::Fits => {
+            tell_why(bytes, number, cells, area);
+        }
+        Question::Curve => {
+            tell_curve(bytes, number, cells, false);
+        }
+        Question::Chart => {
+            tell_curve(bytes, number, cells, true);
+        }
+        Question::At => {
+            tell_at(bytes, number, cells, area);
+        }
+        Question::Shortest => {
+            tell_shortest(bytes, number, cells);
+        }
+    }
 }

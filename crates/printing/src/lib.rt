@@ -1,4 +1,4 @@
-// The lines that programs print on standard output: a curve with its verdict, a refusal, and words with numbers.
+// The lines that programs print on standard output: a curve with its verdict, a refusal, a witness, and words with numbers.
 use desk::VerdictAnswer;
 use libc::STDOUT_FILENO;
 use steps::next_rise;
@@ -71,4 +71,25 @@ pub fn print_number(words: &[u8], number: u64) {
     io::write_all(STDOUT_FILENO, words);
     io::print_decimal(STDOUT_FILENO, number);
     io::write_all(STDOUT_FILENO, b"\n");
+}
+
+// The rows of a witness. Where the engine task asks for nothing there is none, and no line.
+pub fn print_rows(area: &[u8], count: usize)
+    requires { ⌜ count ≤ length (now area) ⌝ }
+{
+    if count == 0 {
+        return;
+    }
+    io::write_all(STDOUT_FILENO, b"by");
+    let mut i: usize = 0;
+    while i < count {
+        print_row(area[i]);
+        i += 1;
+    }
+    io::write_all(STDOUT_FILENO, b"\n");
+}
+
+fn print_row(row: u8) {
+    io::write_all(STDOUT_FILENO, b" ");
+    io::print_decimal(STDOUT_FILENO, row as u64);
 }

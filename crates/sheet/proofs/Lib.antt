@@ -11,3 +11,4 @@ pub mod ProperGraph
 pub mod AcceptedReady
 pub mod ProperTasks
 pub mod Determined
+pub mod Counts

@@ -19,20 +19,10 @@ use Rattle.desk.specs.declared.ShortestAnswer.{ShortestAnswer}
 use Rattle.desk.specs.declared.ShortestAnswer.the-variants as shortest-case
 use Rattle.desk.specs.declared.VerdictAnswer.{VerdictAnswer}
 use Rattle.desk.specs.declared.VerdictAnswer.the-variants as verdict-case
-use Rattle.explain.specs.Calls.{Explains}
-use Rattle.explain.specs.declared.Explained.{Explained}
-use Rattle.explain.specs.declared.ExplainAnswer.{ExplainAnswer}
-use Rattle.explain.specs.declared.ExplainAnswer.the-variants.{Holds, NoInterval, Fails, Refused}
 use Rattle.printing.specs.Showing.{ShowsCurve}
 use Rattle.telling.specs.declared.at.Signed.{Signed}
 use Rattle.telling.specs.declared.at.Signed.the-variants.{Spare, Missing}
-use Rattle.telling.specs.Room.{badInterval}
-
--- a refusal that needs no more room: the sheet's own at its place, or 11 at 0 where the number asked with is out of range
-abbrev pub RefusedBy : List ℕ → Bool → ℕ → ℕ → Type 0
-RefusedBy bytes outOfRange number place =
-    (judged bytes .answer ≡ sheet-case.Refused number place)
-    ⊎ ((judged bytes .answer ≡ sheet-case.Accepted) × (outOfRange ≡ true) × (number ≡ 11) × (place ≡ 0))
+use Rattle.printing.specs.Refusals.{badInterval, RefusedBy}
 
 -- whether a verdict is a refusal
 abbrev pub isRefused : VerdictAnswer → Bool
@@ -72,15 +62,3 @@ abbrev pub ShortestTold : List ℕ → ℕ → ShortestAnswer → Type 0
 ShortestTold bytes b (shortest-case.Found time) = IsShortest (graph bytes) b time × (time ≤ longestTime)
 ShortestTold bytes b (shortest-case.Refused number place) =
     RefusedBy bytes (badAmount b) number place ⊎ ((number ≡ 14) × IsShortest (graph bytes) b noTime)
-
--- why the verdict up to a horizon holds or fails; where it fails, with the rows of its witness at the front of the area
-abbrev pub WhyTold : List ℕ → ℕ → List ℕ → Explained → Type 0
-WhyTold bytes horizon area′ explained =
-    (v : Verdict) × (area : List ℕ) × IsVerdict (graph bytes) (tasks bytes) horizon v × Explains bytes horizon area v explained area′
-
-abbrev pub ExplainTold : List ℕ → ℕ → List ℕ → Explained → ExplainAnswer → Type 0
-ExplainTold bytes horizon area′ explained (Holds margin interval) = WhyTold bytes horizon area′ explained
-ExplainTold bytes horizon area′ explained NoInterval = WhyTold bytes horizon area′ explained
-ExplainTold bytes horizon area′ explained (Fails interval cause engine excess count) =
-    WhyTold bytes horizon area′ explained × (count ≤ length area′)
-ExplainTold bytes horizon area′ explained (Refused number place) = RefusedBy bytes (badInterval horizon) number place

@@ -3,16 +3,15 @@ use desk::DemandAnswer;
 use desk::MarginAnswer;
 use desk::demand;
 use desk::margin;
-use libc::STDOUT_FILENO;
 use printing::print_head;
 use printing::print_number;
 use printing::print_refusal;
+use printing::print_rows;
 ghost use Prim.Native.Nat.{_≤_};
 ghost use mathlib.Core.Path.{_≡_};
 ghost use lib.ListN.{length};
 ghost use Rattle.meaning.specs.Demand.{longestTime};
-ghost use Rattle.words.specs.declared.Question.the-variants.{At};
-ghost use Rattle.telling.specs.Room.{HasRoom};
+ghost use Rattle.printing.specs.Refusals.{RoomToInterval};
 ghost use Rattle.telling.specs.Told.{DemandTold, MarginTold, signOf};
 
 // A margin as it is printed: so much is left of the interval, or so much is missing.
@@ -22,8 +21,8 @@ pub(crate) enum Signed {
 }
 
 // Each call fills the table anew: the calls share no cells.
-pub(crate) fn tell_at(bytes: &[u8], interval: u64, cells: &mut [u32], area: &mut [u8])
-    requires { ⌜ HasRoom (now bytes) At interval (length (now cells)) ⌝ }
+pub fn tell_at(bytes: &[u8], interval: u64, cells: &mut [u32], area: &mut [u8])
+    requires { ⌜ RoomToInterval (now bytes) interval (length (now cells)) ⌝ }
     requires { ⌜ longestTime ≤ length (now area) ⌝ }
 {
     let found = demand(bytes, interval, cells, area);
@@ -46,27 +45,6 @@ fn print_at(bytes: &[u8], interval: u64, found: DemandAnswer, left: MarginAnswer
             print_margin(left);
         }
     }
-}
-
-// The rows of a witness. Where the engine task asks for nothing there is none, and no line.
-pub(crate) fn print_rows(area: &[u8], count: usize)
-    requires { ⌜ count ≤ length (now area) ⌝ }
-{
-    if count == 0 {
-        return;
-    }
-    io::write_all(STDOUT_FILENO, b"by");
-    let mut i: usize = 0;
-    while i < count {
-        print_row(area[i]);
-        i += 1;
-    }
-    io::write_all(STDOUT_FILENO, b"\n");
-}
-
-fn print_row(row: u8) {
-    io::write_all(STDOUT_FILENO, b" ");
-    io::print_decimal(STDOUT_FILENO, row as u64);
 }
 
 fn print_margin(left: MarginAnswer) {

@@ -1,5 +1,4 @@
 // The curve up to a horizon, and for a chart also where fixed demand rises.
-use crate::counts::rows_of;
 use desk::VerdictAnswer;
 use desk::verdict_by_interval;
 use fields::values::Sheet;
@@ -16,12 +15,12 @@ ghost use Rattle.meaning.specs.Demand.{longestTime};
 ghost use Rattle.sheet.specs.Judging.{judged};
 ghost use Rattle.sheet.specs.declared.Answer.the-variants.{Accepted};
 ghost use Rattle.overruns.specs.Releases.{IsProper};
-ghost use Rattle.words.specs.declared.Question.the-variants.{Curve};
-ghost use Rattle.telling.specs.Room.{HasRoom};
+ghost use Rattle.beginning.specs.Beginning.{rows};
+ghost use Rattle.printing.specs.Refusals.{RoomToInterval};
 ghost use Rattle.telling.specs.Told.{isRefused, CurveTold};
 
-pub(crate) fn tell_curve(bytes: &[u8], horizon: u64, cells: &mut [u32], with_fixed: bool)
-    requires { ⌜ HasRoom (now bytes) Curve horizon (length (now cells)) ⌝ }
+pub fn tell_curve(bytes: &[u8], horizon: u64, cells: &mut [u32], with_fixed: bool)
+    requires { ⌜ RoomToInterval (now bytes) horizon (length (now cells)) ⌝ }
 {
     let verdict = find_curve(bytes, horizon, cells);
     if refused(verdict) {
@@ -37,7 +36,7 @@ pub(crate) fn tell_curve(bytes: &[u8], horizon: u64, cells: &mut [u32], with_fix
 
 // One table of cells serves the verdict and the steps.
 fn find_curve(bytes: &[u8], horizon: u64, cells: &mut [u32]) -> VerdictAnswer
-    requires { ⌜ HasRoom (now bytes) Curve horizon (length (now cells)) ⌝ }
+    requires { ⌜ RoomToInterval (now bytes) horizon (length (now cells)) ⌝ }
     ensures { λ r. ⌜ CurveTold (now (bytes .entry)) horizon (now (cells .exit)) r ⌝ }
 {
     verdict_by_interval(bytes, horizon, cells)
@@ -54,6 +53,14 @@ fn refused(verdict: VerdictAnswer) -> bool
             place: _,
         } => true,
     }
+}
+
+fn rows_of(bytes: &[u8]) -> usize
+    ensures { λ r. ⌜ r ≡ rows (now (bytes .entry)) ⌝ }
+{
+    let judged = judge(bytes);
+    let tally = judged.sheet.tally;
+    tally.rows
 }
 
 fn print_fixed(bytes: &[u8], horizon: usize)

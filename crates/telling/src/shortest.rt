@@ -8,12 +8,11 @@ use printing::print_refusal;
 ghost use lib.ListN.{length};
 ghost use Rattle.meaning.specs.Demand.{noTime, IsShortest};
 ghost use Rattle.beginning.specs.Beginning.{graph};
-ghost use Rattle.words.specs.declared.Question.the-variants.{Shortest};
-ghost use Rattle.telling.specs.Room.{HasRoom};
+ghost use Rattle.printing.specs.Refusals.{RoomToAmount};
 ghost use Rattle.telling.specs.Told.{ShortestTold};
 
-pub(crate) fn tell_shortest(bytes: &[u8], amount: u64, cells: &mut [u32])
-    requires { ⌜ HasRoom (now bytes) Shortest amount (length (now cells)) ⌝ }
+pub fn tell_shortest(bytes: &[u8], amount: u64, cells: &mut [u32])
+    requires { ⌜ RoomToAmount (now bytes) amount (length (now cells)) ⌝ }
 {
     let answer = shortest(bytes, amount, cells);
     print_shortest(bytes, amount, answer);

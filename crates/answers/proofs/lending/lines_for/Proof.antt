@@ -2,7 +2,7 @@
 use borrow.Author.Needs.{needs}
 use mathlib.Core.Path.{sym, ap}
 use Rattle.words.specs.declared.Question.{Question}
-use Rattle.telling.specs.Room.{linesFor}
+use Rattle.answers.specs.Room.{linesFor}
 use Rattle.answers.proofs.lending.lines_for.Statement.{statement}
 use Rattle.answers.proofs.lending.lines_for.Tie as tie
 

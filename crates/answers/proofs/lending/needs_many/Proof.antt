@@ -6,7 +6,7 @@ use native.Mathlib.Omega.{arith}
 use borrow.Author.Tests.{ltb-false}
 use Rattle.meaning.specs.Demand.{longestTime}
 use Rattle.fields.specs.Limits.{rowLimit}
-use Rattle.telling.proofs.Within.{rows-within}
+use Rattle.sheet.proofs.Counts.{rows-within}
 use Rattle.answers.proofs.Enough.{few-lines, lines-about}
 use Rattle.answers.proofs.lending.needs_many.Statement.{statement}
 use Rattle.answers.proofs.lending.needs_many.Tie as tie

@@ -1,8 +1,8 @@
 -- `print_rows` meets its contract: every row that is printed stands in the area.
 use Prim.Native.Nat.{_-_, _≤_}
 use borrow.Author.Needs.{needs}
-use Rattle.telling.proofs.at.print_rows.Statement.{statement}
-use Rattle.telling.proofs.at.print_rows.Tie as tie
+use Rattle.printing.proofs.print_rows.Statement.{statement}
+use Rattle.printing.proofs.print_rows.Tie as tie
 
 abbrev Inv-loop : tie.InvT-loop
 Inv-loop area count i₀ t5 i = i ≤ count

@@ -3,15 +3,10 @@ use Prim.Native.Nat.{ℕ, _+_, _≤_}
 use mathlib.Core.Path.{_≡_}
 use mathlib.Core.Bool.{Bool, false}
 use mathlib.Core.List.{List}
-use lib.Dec.{ltb}
-use Rattle.meaning.specs.Demand.{longestTime}
 use Rattle.beginning.specs.Beginning.{roomFor, badAmount}
+use Rattle.printing.specs.Refusals.{badInterval}
 use Rattle.words.specs.declared.Question.{Question}
 use Rattle.words.specs.declared.Question.the-variants.{Fits, Curve, Chart, At, Shortest}
-
--- rule 11 of an interval or a horizon: it is at most the longest time
-abbrev pub badInterval : ℕ → Bool
-badInterval t = ltb longestTime t
 
 -- rule 11 of a question's number: an amount for the shortest interval, else an interval or a horizon
 abbrev pub outOfRange : Question → ℕ → Bool

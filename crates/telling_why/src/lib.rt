@@ -1,6 +1,4 @@
-// Whether a sheet holds up to a horizon, and why.
-use crate::at::print_rows;
-use crate::counts::tasks_of;
+// What is printed for the question whether a sheet holds up to a horizon, and why, in cells and an area that are lent.
 use explain::Cause;
 use explain::ExplainAnswer;
 use explain::Explained;
@@ -10,16 +8,19 @@ use libc::STDOUT_FILENO;
 use printing::print_head;
 use printing::print_number;
 use printing::print_refusal;
+use printing::print_rows;
+use sheet::judge;
 ghost use Prim.Native.Nat.{_≤_};
+ghost use mathlib.Core.Path.{_≡_};
 ghost use lib.ListN.{length};
 ghost use Rattle.meaning.specs.Demand.{longestTime};
 ghost use Rattle.fields.specs.Limits.{taskLimit};
-ghost use Rattle.words.specs.declared.Question.the-variants.{Fits};
-ghost use Rattle.telling.specs.Room.{HasRoom};
-ghost use Rattle.telling.specs.Told.{ExplainTold};
+ghost use Rattle.sheet.specs.Judging.{judged};
+ghost use Rattle.printing.specs.Refusals.{RoomToInterval};
+ghost use Rattle.telling_why.specs.Told.{ExplainTold};
 
-pub(crate) fn tell_why(bytes: &[u8], horizon: u64, cells: &mut [u32], area: &mut [u8])
-    requires { ⌜ HasRoom (now bytes) Fits horizon (length (now cells)) ⌝ }
+pub fn tell_why(bytes: &[u8], horizon: u64, cells: &mut [u32], area: &mut [u8])
+    requires { ⌜ RoomToInterval (now bytes) horizon (length (now cells)) ⌝ }
     requires { ⌜ longestTime ≤ length (now area) ⌝ }
 {
     let explained = explain(bytes, horizon, cells, area);
@@ -88,4 +89,14 @@ fn print_tasks(tasks: usize, demands: [u64; Sheet::TASKS])
         print_number(b" ", demands[i]);
         i += 1;
     }
+}
+
+// How many fixed tasks a sheet has, none where it is refused.
+fn tasks_of(bytes: &[u8]) -> usize
+    ensures { λ r. ⌜ r ≡ judged (now (bytes .entry)) .sheet .tally .tasks ⌝ }
+    ensures { λ r. ⌜ r ≤ taskLimit ⌝ }
+{
+    let judged = judge(bytes);
+    let tally = judged.sheet.tally;
+    tally.tasks
 }

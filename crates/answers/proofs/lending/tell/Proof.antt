@@ -1,7 +1,7 @@
 -- `tell` meets its contract: each question has the room that it takes.
 use borrow.Author.Needs.{needs}
-use Rattle.telling.proofs.tell.Statement.{statement}
-use Rattle.telling.proofs.tell.Tie as tie
+use Rattle.answers.proofs.lending.tell.Statement.{statement}
+use Rattle.answers.proofs.lending.tell.Tie as tie
 
 -- the room of the question that is asked
 tell-why-requires : tie.Need-tell-why-requires

@@ -3,8 +3,8 @@ use Prim.Native.Nat.{_-_, _≤_, _<_}
 use borrow.Author.Needs.{needs}
 use native.Mathlib.Omega.{arith}
 use Rattle.fields.specs.Limits.{taskLimit}
-use Rattle.telling.proofs.why.print_tasks.Statement.{statement}
-use Rattle.telling.proofs.why.print_tasks.Tie as tie
+use Rattle.telling_why.proofs.print_tasks.Statement.{statement}
+use Rattle.telling_why.proofs.print_tasks.Tie as tie
 
 abbrev Inv-loop : tie.InvT-loop
 Inv-loop tasks demands i₀ t5 t6 i = (i ≤ tasks) × (tasks ≤ taskLimit)

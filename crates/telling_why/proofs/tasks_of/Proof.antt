@@ -3,9 +3,9 @@ use borrow.Author.Needs.{needs}
 use mathlib.Core.Path.{ap}
 use native.Mathlib.Omega.{arith}
 use Rattle.sheet.specs.declared.Judged.{Judged}
-use Rattle.telling.proofs.Within.{tasks-within}
-use Rattle.telling.proofs.counts.tasks_of.Statement.{statement}
-use Rattle.telling.proofs.counts.tasks_of.Tie as tie
+use Rattle.sheet.proofs.Counts.{tasks-within}
+use Rattle.telling_why.proofs.tasks_of.Statement.{statement}
+use Rattle.telling_why.proofs.tasks_of.Tie as tie
 
 returns : tie.Need-returns
 returns c =

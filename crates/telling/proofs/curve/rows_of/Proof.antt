@@ -2,8 +2,8 @@
 use borrow.Author.Needs.{needs}
 use mathlib.Core.Path.{ap}
 use Rattle.sheet.specs.declared.Judged.{Judged}
-use Rattle.telling.proofs.counts.rows_of.Statement.{statement}
-use Rattle.telling.proofs.counts.rows_of.Tie as tie
+use Rattle.telling.proofs.curve.rows_of.Statement.{statement}
+use Rattle.telling.proofs.curve.rows_of.Tie as tie
 
 returns : tie.Need-returns
 returns c = ap (λ (j : Judged). j .sheet .tally .rows) (c .before .judge .ensures)

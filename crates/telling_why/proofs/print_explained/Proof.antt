@@ -1,9 +1,9 @@
 -- `print_explained` meets its contract: the rows that an answer counts stand in the area, as it asks.
 use borrow.Author.Needs.{needs}
 use mathlib.Core.Path.{subst}
-use Rattle.telling.specs.Told.{ExplainTold}
-use Rattle.telling.proofs.why.print_explained.Statement.{statement}
-use Rattle.telling.proofs.why.print_explained.Tie as tie
+use Rattle.telling_why.specs.Told.{ExplainTold}
+use Rattle.telling_why.proofs.print_explained.Statement.{statement}
+use Rattle.telling_why.proofs.print_explained.Tie as tie
 
 print-rows-requires : tie.Need-print-rows-requires
 print-rows-requires c κs =

@@ -1,9 +1,9 @@
 -- `tell_why` meets its contract: the call is lent cells enough, and the area takes every witness.
 use borrow.Author.Needs.{needs}
 use native.Mathlib.Omega.{arith}
-use Rattle.telling.proofs.Told.{explain-told}
-use Rattle.telling.proofs.why.tell_why.Statement.{statement}
-use Rattle.telling.proofs.why.tell_why.Tie as tie
+use Rattle.telling_why.proofs.Told.{explain-told}
+use Rattle.telling_why.proofs.tell_why.Statement.{statement}
+use Rattle.telling_why.proofs.tell_why.Tie as tie
 
 print-explained-requires : tie.Need-print-explained-requires
 print-explained-requires c κs =
