@@ -1,6 +1,5 @@
 -- What the tables of an accepted sheet tell a call: the numbers read off its cells are those that the call promises.
 use Prim.Native.Nat.{ℕ, _+_, _*_, _^_, _≤_, _<_}
-use native.Mathlib.Nat.{mul-le-mul-left}
 use native.Mathlib.Omega.{arith}
 use mathlib.Core.Path.{_≡_, refl, sym, ap, ap₂, _∙_, subst}
 use mathlib.Core.List.{List}
@@ -44,12 +43,6 @@ use Rattle.desk.specs.declared.MarginAnswer.the-variants as margin-case
 use Rattle.desk.specs.declared.ShortestAnswer as shortest
 use Rattle.desk.specs.declared.ShortestAnswer.the-variants as shortest-case
 use Rattle.desk.specs.declared.VerdictAnswer as verdict
-
--- where there is room for some lines, there is for fewer
-pub room-for-fewer : (rows count lines cells : ℕ) → lines ≤ count → rows * count ≤ cells → rows * lines ≤ cells
-room-for-fewer rows count lines cells fewer room =
-    let less : rows * lines ≤ rows * count = mul-le-mul-left {m = lines} {n = count} rows fewer in
-    omega arith
 
 -- what `demand` answers with a witness as it is shown
 abbrev pub demandAs : ℕ → Shown → demand.DemandAnswer

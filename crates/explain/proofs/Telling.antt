@@ -23,7 +23,8 @@ use Rattle.witness.specs.declared.Shown.the-variants.{Rows, TooLong}
 use Rattle.beginning.specs.Beginning.{graph, tasks}
 use Rattle.beginning.specs.Showing.{WitnessShown}
 use Rattle.beginning.proofs.Showing.{shown-as}
-use Rattle.desk.proofs.Telling.{room-for-fewer, lines-filled, demand-told, witness-told}
+use Rattle.tables.proofs.Lines.{room-for-fewer}
+use Rattle.desk.proofs.Telling.{lines-filled, demand-told, witness-told}
 use Rattle.explain.specs.Reasons.{Sums, excessOf}
 use Rattle.explain.specs.Looking.{Shows, toldWith, ToldAt}
 use Rattle.explain.specs.Calls.{withoutDemands, allDemands, failing, FailsAt, ExplainAnswers}

@@ -2,7 +2,7 @@
 use Prim.Native.Nat.{ℕ, _+_, _*_, _/_, _≤_}
 use native.Mathlib.Nat.{le-div-iff-mul-le}
 use native.Mathlib.Omega.{arith}
-use Rattle.desk.proofs.Telling.{room-for-fewer}
+use Rattle.tables.proofs.Lines.{room-for-fewer}
 
 module _ (cells rows lines : ℕ) (some : 1 ≤ rows) where
   pub lines-fit : lines ≤ cells / rows → rows * lines ≤ cells

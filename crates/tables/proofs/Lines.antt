@@ -3,7 +3,7 @@ use mathlib.Core.Path.{_≡_}
 use mathlib.Core.Logic.{⊎-elim}
 use mathlib.Core.List.{List}
 use Prim.Native.Nat.{ℕ, _+_, _*_, _≤_, _<_}
-use native.Mathlib.Nat.{mul-le-mul}
+use native.Mathlib.Nat.{mul-le-mul, mul-le-mul-left}
 use native.Mathlib.Omega.{arith}
 use lib.Arith.{digits-lt}
 use lib.ListN.{length, set}
@@ -18,6 +18,12 @@ use Rattle.sheet.specs.Meaning.{graphOf}
 use Rattle.sheet.specs.Ready.{Ready}
 use Rattle.fields.specs.declared.values.Sheet.{Sheet}
 use Rattle.tables.specs.Lines.{HasLines, demandIn}
+
+-- where there is room for some lines, there is for fewer
+pub room-for-fewer : (rows count lines cells : ℕ) → lines ≤ count → rows * count ≤ cells → rows * lines ≤ cells
+room-for-fewer rows count lines cells fewer room =
+    let less : rows * lines ≤ rows * count = mul-le-mul-left {m = lines} {n = count} rows fewer in
+    omega arith
 
 -- a cell of one of the lines has its place before their end
 pub in-lines : (n line lines k used : ℕ) → line < lines → k < n → n * lines ≤ used → line * n + k < used

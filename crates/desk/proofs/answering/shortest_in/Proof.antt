@@ -1,6 +1,7 @@
 -- `shortest_in` meets its contract: what it reads off the last filled line is the shortest interval, and no time is 14.
 use Prim.Native.Nat.{_*_, _≤_}
-use Rattle.desk.proofs.Telling.{room-for-fewer, room-told, shortest-answers, gives-none, gives-time}
+use Rattle.tables.proofs.Lines.{room-for-fewer}
+use Rattle.desk.proofs.Telling.{room-told, shortest-answers, gives-none, gives-time}
 use Rattle.desk.proofs.answering.shortest_in.Statement.{statement}
 use borrow.Author.Needs.{needs}
 use denote.Ref.{now}

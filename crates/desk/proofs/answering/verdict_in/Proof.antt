@@ -1,6 +1,7 @@
 -- `verdict_in` meets its contract: all lines are filled, and the sweep over them gives the verdict.
 use Prim.Native.Nat.{ℕ, _+_, _*_, _≤_}
-use Rattle.desk.proofs.Telling.{room-for-fewer, room-told, verdict-told}
+use Rattle.tables.proofs.Lines.{room-for-fewer}
+use Rattle.desk.proofs.Telling.{room-told, verdict-told}
 use Rattle.desk.proofs.answering.verdict_in.Statement.{statement}
 use borrow.Author.Needs.{needs}
 use denote.Ref.{now}
