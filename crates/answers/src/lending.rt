@@ -3,7 +3,7 @@ use crate::AREA;
 use crate::FEW;
 use crate::MANY;
 use fields::values::Sheet;
-use sheet::judge;
+use telling::rows_of;
 use telling::tell_at;
 use telling::tell_curve;
 use telling::tell_shortest;
@@ -23,9 +23,7 @@ pub(crate) fn needs_many(bytes: &[u8], question: Question, number: u64) -> bool
     if (Sheet::TICKS.0 as u64) + 1 < number {
         return false;
     }
-    let judged = judge(bytes);
-    let tally = judged.sheet.tally;
-    FEW < tally.rows * lines_for(question, number)
+    FEW < rows_of(bytes) * lines_for(question, number)
 }
 
 fn lines_for(question: Question, number: u64) -> usize

@@ -55,7 +55,8 @@ fn refused(verdict: VerdictAnswer) -> bool
     }
 }
 
-fn rows_of(bytes: &[u8]) -> usize
+// How many rows a sheet has, none where it is refused.
+pub fn rows_of(bytes: &[u8]) -> usize
     ensures { λ r. ⌜ r ≡ rows (now (bytes .entry)) ⌝ }
 {
     let judged = judge(bytes);
