@@ -1,6 +1,7 @@
 /*
- * Measures whole calls of the proved library beside the same jobs in plain C: both in turn on the same bytes, the best of
- * several runs each, answers and cells compared. With the word `ratios` it prints no times, for a machine that emulates.
+ * Measures whole calls of the proved library beside the same jobs in plain C: both in turn on the same bytes or values, the
+ * best of several runs each, answers, cells and written bytes compared. With the word `ratios` it prints no times, for a
+ * machine that emulates.
  */
 #include <stdio.h>
 #include <stdlib.h>
@@ -10,7 +11,10 @@
 #include "marnipode.h"
 #include "plain.h"
 
-enum { ROWS = 32, LENGTHS = 8, LEAST_RUNS = 7, SHEET_SIZE = 4096 };
+enum { ROWS = 32, LENGTHS = 8, TASKS = 16, LEAST_RUNS = 7, SHEET_SIZE = 4096 };
+
+/* One sheet is written too quickly for the clock, so a run writes it this many times. */
+enum { WRITES = 2000 };
 
 /* What is asked: the margin at an interval, the shortest interval for an amount, or why a horizon holds. */
 typedef enum { MARGIN, SHORTEST, EXPLAIN } question;
@@ -28,6 +32,16 @@ static size_t sheet_size;
 static uint32_t *ours, *plain;
 static size_t cell_count;
 static int ratios_only;
+
+/* The values of the sheet, in columns, and how they are lent to each writer. */
+static uint16_t boundaries[LENGTHS], lengths[LENGTHS], speeds[ROWS], deadlines[ROWS], gaps[ROWS * ROWS];
+static uint64_t follower_sets[ROWS];
+static uint16_t task_lengths[TASKS], task_periods[TASKS], task_deadlines[TASKS];
+static marnipode_values values;
+static plain_values same_values;
+
+/* The sheet as each of them writes it. */
+static uint8_t our_sheet[SHEET_SIZE], plain_sheet[SHEET_SIZE];
 
 static void put_byte(unsigned number)
 {
@@ -50,11 +64,11 @@ static void put_head(unsigned tag, unsigned size)
  * A sheet whose rows have the same count of followers: each row is followed by itself and the next ones, the first after the
  * last. Deadlines and gaps fall as the speed rises, lengths fall with the modes.
  */
-static void make_sheet(unsigned rows, unsigned followers, unsigned longest)
+static void make_sheet(const char *label, unsigned rows, unsigned followers, unsigned longest, unsigned tasks)
 {
     sheet_size = 0;
-    put_head(1, 7);
-    for (const char *text = "measure"; *text != 0; text++)
+    put_head(1, (unsigned)strlen(label));
+    for (const char *text = label; *text != 0; text++)
         put_byte((unsigned char)*text);
     for (unsigned i = 0; i < LENGTHS; i++) {
         put_head(2, 4);
@@ -75,10 +89,12 @@ static void make_sheet(unsigned rows, unsigned followers, unsigned longest)
             if (set >> j & 1)
                 put_word(deadline + 7 * (j + k) % 100);
     }
-    put_head(4, 6);
-    put_word(100);
-    put_word(1000);
-    put_word(1000);
+    for (unsigned i = 0; i < tasks; i++) {
+        put_head(4, 6);
+        put_word(100 + i);
+        put_word(1000 + 300 * i);
+        put_word(1000 + 200 * i);
+    }
     put_head(5, 0);
 }
 
@@ -133,7 +149,7 @@ static double time_of(int64_t (*ask)(question, uint64_t), question asked, uint64
 
 static void measure(question asked, unsigned rows, unsigned followers, uint64_t t)
 {
-    make_sheet(rows, followers, longest_job[asked]);
+    make_sheet("measure", rows, followers, longest_job[asked], 1);
     double best_ours = 1e9, best_plain = 1e9;
     size_t lines = asked == SHORTEST ? t : t + 1;
     double began = seconds();
@@ -155,11 +171,110 @@ static void measure(question asked, unsigned rows, unsigned followers, uint64_t 
     printf(" %9.2f\n", best_ours / best_plain);
 }
 
+/* The values of one row, whose gaps come behind those that are there already; gives how many gaps there are then. */
+static size_t take_row(size_t number, size_t rows, size_t gap_count)
+{
+    marnipode_row_answer row = marnipode_row(sheet, sheet_size, number);
+    speeds[number] = row.speed;
+    deadlines[number] = row.deadline;
+    follower_sets[number] = row.followers;
+    for (size_t follower = 0; follower < rows; follower++)
+        if (row.followers >> follower & 1)
+            gaps[gap_count++] = marnipode_gap(sheet, sheet_size, number, follower);
+    return gap_count;
+}
+
+/* Both writers are lent the same columns, with the values that the library tells of the sheet. */
+static void take_values(void)
+{
+    marnipode_judge_answer judged = marnipode_judge(sheet, sheet_size);
+    marnipode_label_answer label = marnipode_label(sheet, sheet_size);
+    size_t gap_count = 0;
+    if (judged.number != 0)
+        fail("the sheet is refused");
+    for (size_t i = 0; i < judged.modes; i++) {
+        marnipode_mode_answer mode = marnipode_mode(sheet, sheet_size, i);
+        boundaries[i] = mode.boundary;
+        lengths[i] = mode.length;
+    }
+    for (size_t i = 0; i < judged.rows; i++)
+        gap_count = take_row(i, judged.rows, gap_count);
+    for (size_t i = 0; i < judged.tasks; i++) {
+        marnipode_task_answer task = marnipode_task(sheet, sheet_size, i);
+        task_lengths[i] = task.length;
+        task_periods[i] = task.period;
+        task_deadlines[i] = task.deadline;
+    }
+    values = (marnipode_values){sheet + label.start, label.size, boundaries, lengths, judged.modes, speeds, deadlines,
+                                follower_sets, judged.rows, gaps, gap_count, task_lengths, task_periods, task_deadlines,
+                                judged.tasks};
+    same_values = (plain_values){sheet + label.start, label.size, boundaries, lengths, judged.modes, speeds, deadlines,
+                                 follower_sets, judged.rows, gaps, gap_count, task_lengths, task_periods, task_deadlines,
+                                 judged.tasks};
+}
+
+static size_t write_ours(void)
+{
+    marnipode_write_answer answer = marnipode_write(&values, our_sheet, SHEET_SIZE);
+    if (answer.number != 0)
+        fail("the values are refused");
+    return answer.size;
+}
+
+static size_t write_plain(void)
+{
+    plain_write_answer answer = plain_write(&same_values, plain_sheet, SHEET_SIZE);
+    if (answer.number != 0)
+        fail("the values are refused in plain C");
+    return answer.size;
+}
+
+/* The time of one sheet. What stands in the output before is another byte in each run, so that one that is not written is seen. */
+static double time_of_writing(size_t (*write_one)(void), uint8_t *output, int run, size_t *size)
+{
+    memset(output, run, SHEET_SIZE);
+    double began = seconds();
+    for (int i = 0; i < WRITES; i++)
+        *size = write_one();
+    return (seconds() - began) / WRITES;
+}
+
+static void measure_writing(const char *which, const char *label, unsigned followers, unsigned tasks)
+{
+    make_sheet(label, ROWS, followers, longest_job[MARGIN], tasks);
+    take_values();
+    double best_ours = 1e9, best_plain = 1e9;
+    double began = seconds();
+    for (int run = 0; run < LEAST_RUNS || seconds() - began < LEAST_SECONDS; run++) {
+        size_t size, same;
+        double took = time_of_writing(write_ours, our_sheet, run, &size);
+        best_ours = took < best_ours ? took : best_ours;
+        took = time_of_writing(write_plain, plain_sheet, run, &same);
+        best_plain = took < best_plain ? took : best_plain;
+        if (size != same || size != sheet_size)
+            fail("the sizes of the written sheets differ");
+        if (memcmp(our_sheet, plain_sheet, SHEET_SIZE) != 0 || memcmp(our_sheet, sheet, sheet_size) != 0)
+            fail("the written bytes differ");
+    }
+    printf("%-12s %4d %9u %7zu", which, ROWS, followers, sheet_size);
+    if (!ratios_only)
+        printf(" %9.3f %9.3f", 1e6 * best_ours, 1e6 * best_plain);
+    printf(" %9.2f\n", best_ours / best_plain);
+}
+
 static void head(const char *title)
 {
     printf("\n%s\n%-12s %4s %9s %7s", title, "table", "rows", "followers", "up to");
     if (!ratios_only)
         printf(" %9s %9s %9s %9s", "ms", "ms in C", "ns/edge", "ns in C");
+    printf(" %9s\n", "ratio");
+}
+
+static void head_of_writing(const char *title)
+{
+    printf("\n%s\n%-12s %4s %9s %7s", title, "sheet", "rows", "followers", "bytes");
+    if (!ratios_only)
+        printf(" %9s %9s", "us", "us in C");
     printf(" %9s\n", "ratio");
 }
 
@@ -171,7 +286,7 @@ int main(int argc, char **argv)
     plain = calloc(cell_count, sizeof *plain);
     if (ours == NULL || plain == NULL)
         return 2;
-    printf("One edge is one follower of one cell. Best of at least %d runs, in turn, on the same bytes; answers and cells are equal.\n", LEAST_RUNS);
+    printf("One edge is one follower of one cell. Best of at least %d runs, in turn, on the same bytes; answers, cells and written bytes are equal.\n", LEAST_RUNS);
     head("Whole calls: margin at 65,535, and the shortest interval for 65,536");
     for (unsigned followers = ROWS; 0 < followers; followers = followers == ROWS ? 3 : 0) {
         measure(MARGIN, ROWS, followers, MARNIPODE_LONGEST_TIME);
@@ -189,6 +304,9 @@ int main(int argc, char **argv)
     head("With the interval");
     for (uint64_t lines = 4096; lines <= MARNIPODE_LONGEST_TIME + 1; lines *= 2)
         measure(MARGIN, ROWS, 3, lines - 1);
+    head_of_writing("Sheets written from values, which are judged first: the largest there is, and a usual one");
+    measure_writing("largest", "A label of 32 bytes, the longest", ROWS, TASKS);
+    measure_writing("usual", "measure", 3, 2);
     free(plain);
     free(ours);
     return 0;

@@ -7,15 +7,15 @@
  * What a caller owes, since no call can see it:
  *   - a pointer stands for as many elements as the size or count after it says, aligned as its type asks; for 0 elements it
  *     may be null;
- *   - nothing else writes an argument while a call runs, and a lent area (cells, witness) overlaps no other argument;
+ *   - nothing else writes an argument while a call runs, and a lent area (cells, witness, output) overlaps no other argument;
  *   - MARNIPODE_MOST_STACK bytes of stack are left, and what `memcpy` takes.
- * Nothing else is asked: any bytes may be given as a sheet and any numbers as an interval, amount, horizon or place. A lent
- * area may hold anything before.
+ * Nothing else is asked: any bytes may be given as a sheet, any numbers as its values, and any number as an interval, amount,
+ * horizon, place, or number of a mode, row or task. A lent area may hold anything before.
  *
  * What a call answers: `number` is 0 where it succeeds, and `place` is 0 then; else `number` is that of the refusal, named below,
- * and `place` is the byte, from 0, at which the faulty field starts (docs/FORMAT.md has the exceptions), 0 from 11 on. All
- * else in a refusal is 0. Up to number 12 nothing that was lent is touched; at 13 and 14 the cells are filled already, just as
- * without a refusal, and 13 writes no byte of the witness area.
+ * and `place` is the byte, from 0, at which the faulty field starts (docs/FORMAT.md has the exceptions), 0 from 11 on and in
+ * every refusal to write. All else in a refusal is 0. Nothing that was lent is touched but at 13 and 14: there the cells are
+ * filled already, just as without a refusal, and 13 writes no byte of the witness area.
  *
  * Calls keep nothing from one to the next and allocate nothing, so several threads may call at once on areas of their own. The
  * archive needs `memcpy` and nothing else: a program without a C library can use it by bringing that one function.
@@ -31,14 +31,17 @@ extern "C" {
 #endif
 
 /* The version of this header and its archive; as a number, 1.2.3 is 10203. CHANGELOG.md says what a new one changes. */
-#define MARNIPODE_VERSION "1.2.0"
-#define MARNIPODE_VERSION_NUMBER 10200
+#define MARNIPODE_VERSION "1.3.0"
+#define MARNIPODE_VERSION_NUMBER 10300
 
 /* The most modes, rows and fixed tasks of a sheet, and the most bytes of its label. */
 #define MARNIPODE_MOST_MODES 8
 #define MARNIPODE_MOST_ROWS 32
 #define MARNIPODE_MOST_TASKS 16
 #define MARNIPODE_LONGEST_LABEL 32
+
+/* The most bytes that a written sheet has: an output of so many cannot give refusal 15. */
+#define MARNIPODE_MOST_WRITTEN 2638
 
 /* The highest speed of a sheet, in rpm; its longest time, which is also the longest interval or horizon that can be asked about. */
 #define MARNIPODE_HIGHEST_SPEED 20000
@@ -50,6 +53,9 @@ extern "C" {
 
 /* No call takes more stack than this, in bytes, with all that it calls but `memcpy`, which the program brings. */
 #define MARNIPODE_MOST_STACK 8192
+
+/* And writing a sheet takes no more than this. */
+#define MARNIPODE_MOST_STACK_TO_WRITE 4096
 
 /*
  * Each refusal. README.md says what to do about it, docs/FORMAT.md what breaks the rule of this number, in which order the
@@ -69,7 +75,8 @@ enum {
     MARNIPODE_REFUSED_QUESTION = 11,           /* an interval, horizon or amount out of range */
     MARNIPODE_REFUSED_FEW_CELLS = 12,          /* fewer cells than the call uses */
     MARNIPODE_REFUSED_SHORT_WITNESS_AREA = 13, /* a witness with more rows than its area has bytes */
-    MARNIPODE_REFUSED_NEVER_REACHED = 14       /* no sequence reaches the amount by MARNIPODE_LONGEST_TIME */
+    MARNIPODE_REFUSED_NEVER_REACHED = 14,      /* no sequence reaches the amount by MARNIPODE_LONGEST_TIME */
+    MARNIPODE_REFUSED_SHORT_OUTPUT = 15        /* an output that is shorter than the sheet to be written */
 };
 
 /* What kind of field the reader found: its tag, or the first of the skipped tags for any of them; 0 in a refusal. */
@@ -163,6 +170,57 @@ typedef struct {
     uint64_t interval;
 } marnipode_explain_answer;
 
+/* How many bytes a written sheet has. */
+typedef struct {
+    uint8_t number;
+    size_t place;
+    size_t size;
+} marnipode_write_answer;
+
+/* A mode: the highest speed that is still in it, and its job length. */
+typedef struct {
+    uint16_t boundary;
+    uint16_t length;
+} marnipode_mode_answer;
+
+/* A row: its speed, its deadline, its follower set (bit j says that row j may come next), and its job length, which its mode gives. */
+typedef struct {
+    uint16_t speed;
+    uint16_t deadline;
+    uint64_t followers;
+    uint16_t length;
+} marnipode_row_answer;
+
+/* A fixed task. */
+typedef struct {
+    uint16_t length;
+    uint16_t period;
+    uint16_t deadline;
+} marnipode_task_answer;
+
+/*
+ * The values of a sheet, in columns: a mode, a row or a task is what stands at its number in each column of its kind. The gaps stand
+ * one behind the other, those of row 0 first, and of each row one for each row of its follower set, lowest first. Follower sets have
+ * room for 64 rows; bits from MARNIPODE_MOST_ROWS on name rows that do not exist, and are refused by 9.
+ */
+typedef struct {
+    const uint8_t *label;
+    size_t label_size;
+    const uint16_t *boundaries;
+    const uint16_t *lengths;
+    size_t modes;
+    const uint16_t *speeds;
+    const uint16_t *deadlines;
+    const uint64_t *followers;
+    size_t rows;
+    const uint16_t *gaps;
+    size_t gap_count;
+    const uint16_t *task_lengths;
+    const uint16_t *task_periods;
+    const uint16_t *task_deadlines;
+    size_t tasks;
+} marnipode_values;
+
 /* Judges a sheet: refusals 1 to 10. */
 marnipode_judge_answer marnipode_judge(const uint8_t *sheet, size_t size);
 
@@ -171,6 +229,49 @@ marnipode_label_answer marnipode_label(const uint8_t *sheet, size_t size);
 
 /* One step of the field reader at a place: the field there, skipped and end fields too, or refusal 1 or 2. */
 marnipode_field_answer marnipode_field_at(const uint8_t *sheet, size_t size, size_t at);
+
+/*
+ * The values of a sheet by number, from 0; marnipode_judge tells how many there are. Past the last one, and of a refused sheet, all
+ * numbers are 0, which no value of an accepted sheet is, but for a follower set. The gap is that from a row to a row, 0 where the
+ * second may not follow the first.
+ */
+marnipode_mode_answer marnipode_mode(const uint8_t *sheet, size_t size, size_t number);
+marnipode_row_answer marnipode_row(const uint8_t *sheet, size_t size, size_t number);
+uint16_t marnipode_gap(const uint8_t *sheet, size_t size, size_t from, size_t to);
+marnipode_task_answer marnipode_task(const uint8_t *sheet, size_t size, size_t number);
+
+/*
+ * Writes the sheet of these values at the front of the output: label, modes, rows, fixed tasks, end. The bytes behind it stay as they
+ * were. Reading it gives the same values again, and an accepted sheet without skipped fields, written from its values, is the same
+ * byte for byte; skipped fields are not written.
+ *
+ * Refused is what the judge would refuse, by the same number, but at place 0, since nothing is written: 5 for an empty or too long
+ * label, and for more or fewer gaps than the follower sets have rows; 3 for no modes or no rows; 6 to 10 as of a sheet. Then 15
+ * where the output is shorter than the sheet.
+ */
+static inline marnipode_write_answer marnipode_write(const marnipode_values *values, uint8_t *output, size_t output_size);
+
+/*
+ * The same with each column's own count, for languages that have no use for the struct. Columns of a kind that are not equally long
+ * are refused by 5, where the shortest of them ends.
+ */
+marnipode_write_answer marnipode_write_columns(const uint8_t *label, size_t label_size, const uint16_t *boundaries,
+                                               size_t boundary_count, const uint16_t *lengths, size_t length_count,
+                                               const uint16_t *speeds, size_t speed_count, const uint16_t *deadlines,
+                                               size_t deadline_count, const uint64_t *followers, size_t follower_count,
+                                               const uint16_t *gaps, size_t gap_count, const uint16_t *task_lengths,
+                                               size_t task_length_count, const uint16_t *task_periods, size_t task_period_count,
+                                               const uint16_t *task_deadlines, size_t task_deadline_count, uint8_t *output,
+                                               size_t output_size);
+
+static inline marnipode_write_answer marnipode_write(const marnipode_values *values, uint8_t *output, size_t output_size)
+{
+    return marnipode_write_columns(values->label, values->label_size, values->boundaries, values->modes, values->lengths,
+                                   values->modes, values->speeds, values->rows, values->deadlines, values->rows,
+                                   values->followers, values->rows, values->gaps, values->gap_count, values->task_lengths,
+                                   values->tasks, values->task_periods, values->tasks, values->task_deadlines, values->tasks,
+                                   output, output_size);
+}
 
 /*
  * The calls below want cells. With n rows (`rows` of marnipode_judge) they use n times (interval + 1), n times (horizon + 1), or,

@@ -26,6 +26,15 @@ static const struct {
     {"shortest", read_shortest, true},
     {"why", read_why, true},
     {"cell", read_cell, true},
+    {"mode", read_mode, true},
+    {"row", read_row, true},
+    {"gap", read_gap, true},
+    {"task", read_task, true},
+    {"values", read_values, false},
+    {"with", read_with, false},
+    {"without", read_without, false},
+    {"write", read_write, false},
+    {"reads", read_reads, true},
 };
 
 enum { WORDS = sizeof words / sizeof words[0] };

@@ -156,6 +156,49 @@ static void compare_explanations(uint32_t *cells)
     compare("the excess", why.engine == 1 && why.excess == MARNIPODE_MOST_TASKS);
 }
 
+/* The largest sheet: every row is followed by every row, and all times are 1. */
+static void compare_writing(void)
+{
+    static uint16_t ones[MARNIPODE_MOST_ROWS * MARNIPODE_MOST_ROWS], speeds[MARNIPODE_MOST_ROWS];
+    static uint64_t sets[MARNIPODE_MOST_ROWS];
+    static uint8_t output[MARNIPODE_MOST_WRITTEN], label[MARNIPODE_LONGEST_LABEL];
+    const size_t gaps = sizeof ones / sizeof ones[0];
+    memset(label, 'L', sizeof label);
+    for (size_t i = 0; i < gaps; i++)
+        ones[i] = 1;
+    for (size_t i = 0; i < MARNIPODE_MOST_ROWS; i++) {
+        speeds[i] = (uint16_t)(i + 1);
+        sets[i] = (UINT64_C(1) << MARNIPODE_MOST_ROWS) - 1;
+    }
+    marnipode_values values = {label, sizeof label, speeds + MARNIPODE_MOST_ROWS - MARNIPODE_MOST_MODES, ones,
+                               MARNIPODE_MOST_MODES, speeds, ones, sets, MARNIPODE_MOST_ROWS, ones, gaps, ones, ones, ones,
+                               MARNIPODE_MOST_TASKS};
+    marnipode_write_answer written = marnipode_write(&values, output, sizeof output);
+    compare("the largest written sheet", written.number == 0 && written.place == 0 && written.size == MARNIPODE_MOST_WRITTEN);
+    compare("the largest sheet, read", marnipode_judge(output, written.size).rows == MARNIPODE_MOST_ROWS);
+    written = marnipode_write(&values, output, sizeof output - 1);
+    compare("a short output", written.number == MARNIPODE_REFUSED_SHORT_OUTPUT && written.place == 0 && written.size == 0);
+    compare("a null output", marnipode_write(&values, NULL, 0).number == MARNIPODE_REFUSED_SHORT_OUTPUT);
+    sets[0] |= UINT64_C(1) << 63;
+    compare("a gap too few", marnipode_write(&values, output, sizeof output).number == MARNIPODE_REFUSED_WRONG_LENGTH);
+    sets[0] ^= UINT64_C(1);
+    compare("the row of the highest bit", marnipode_write(&values, output, sizeof output).number == MARNIPODE_REFUSED_UNKNOWN_FOLLOWER);
+    values = (marnipode_values){0};
+    compare("null columns", marnipode_write(&values, output, sizeof output).number == MARNIPODE_REFUSED_WRONG_LENGTH);
+}
+
+/* Values by number are 0 past the last one. */
+static void compare_values(void)
+{
+    write_outline(&(outline){1, 1, 1, 1, 1});
+    compare("the values of a sheet", marnipode_mode(sheet, size, 0).boundary == 1 && marnipode_row(sheet, size, 0).followers == 1 &&
+                                         marnipode_gap(sheet, size, 0, 0) == 1 && marnipode_task(sheet, size, 0).period == 1);
+    compare("a mode past the last", marnipode_mode(sheet, size, 1).boundary == 0 && marnipode_mode(sheet, size, SIZE_MAX).length == 0);
+    compare("a row past the last", marnipode_row(sheet, size, 1).speed == 0 && marnipode_row(sheet, size, SIZE_MAX).length == 0);
+    compare("a gap past the last", marnipode_gap(sheet, size, 0, 1) == 0 && marnipode_gap(sheet, size, SIZE_MAX, SIZE_MAX) == 0);
+    compare("a task past the last", marnipode_task(sheet, size, 1).length == 0 && marnipode_task(sheet, size, SIZE_MAX).period == 0);
+}
+
 /* No bytes at all are a sheet that is cut off. */
 static void compare_no_sheet(void)
 {
@@ -163,6 +206,8 @@ static void compare_no_sheet(void)
     compare("a null sheet", judged.number == MARNIPODE_REFUSED_CUT_OFF && judged.place == 0 && judged.rows == 0);
     marnipode_label_answer label = marnipode_label(NULL, 0);
     compare("the label of a null sheet", label.start == 0 && label.size == 0);
+    compare("the values of a null sheet", marnipode_mode(NULL, 0, 0).boundary == 0 && marnipode_row(NULL, 0, 0).speed == 0 &&
+                                              marnipode_gap(NULL, 0, 0, 0) == 0 && marnipode_task(NULL, 0, 0).length == 0);
     marnipode_field_answer field = marnipode_field_at(NULL, 0, 7);
     compare("a field of a null sheet",
             field.number == MARNIPODE_REFUSED_CUT_OFF && field.place == 7 && field.kind == MARNIPODE_NO_FIELD);
@@ -181,6 +226,8 @@ int main(void)
     compare_limits();
     compare_questions(cells);
     compare_explanations(cells);
+    compare_writing();
+    compare_values();
     compare_no_sheet();
     print_score("header in all", 13, counted);
     return counted.wrong == 0 ? EXIT_SUCCESS : EXIT_FAILURE;

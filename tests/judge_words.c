@@ -61,6 +61,7 @@ void read_refused(trial *now, const line *said)
     compare(now);
     hold_judge(now, (marnipode_judge_answer){(uint8_t)must.number, must.place, 0, 0, 0});
     hold_label(now, 0, 0);
+    hold_no_values(now);
     hold_all_calls(now, must, rest_of(said, 0));
 }
 

@@ -5,6 +5,8 @@
 #include <stddef.h>
 #include <stdint.h>
 
+#include "columns.h"
+
 enum { MOST_ROWS = 3, MOST_TASKS = 4 };
 
 /* Room for a file: three rows and four fixed tasks take 115 bytes. */
@@ -56,5 +58,8 @@ void print_bounds(const family *chosen);
 
 /* Writes the file of a plan, and says how many bytes it has. */
 size_t write_plan(const plan *made, uint8_t *bytes);
+
+/* The values of a plan in columns. */
+void fill_columns(const plan *made, columns *given);
 
 #endif

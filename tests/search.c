@@ -33,6 +33,7 @@ typedef struct {
     area sheet;
     area cells;
     area witness;
+    area output;
     counts counted;
 } search;
 
@@ -130,13 +131,20 @@ static outcome must_answer(const search *now, call asked, uint64_t number)
 }
 
 /* Counts a wrong answer, and says whether it is told: then the line begins with the sheet as a text of cases has it. */
-static bool tell_wrong(search *now, call asked, uint64_t number)
+static bool tell_sheet(search *now)
 {
     if (MOST_TOLD < ++now->counted.wrong)
         return false;
     printf("sheet ");
     for (size_t i = 0; i < now->size; i++)
         printf("%02X", now->bytes[i]);
+    return true;
+}
+
+static bool tell_wrong(search *now, call asked, uint64_t number)
+{
+    if (!tell_sheet(now))
+        return false;
     printf(": %s %" PRIu64, name_of(asked), number);
     return true;
 }
@@ -220,6 +228,32 @@ static void compare_call(search *now, call asked, uint64_t number)
         tell_memory(now, asked, number, fault);
 }
 
+/* What is wrong with the values that are told of the sheet, or with the sheet that is written of them; null where nothing is. */
+static const char *values_fault(search *now)
+{
+    static columns must, told;
+    fill_columns(&now->made, &must);
+    read_columns(&told, now->sheet.start, now->sheet.size);
+    if (!are_same(&told, &must))
+        return "has other values when it is read by number";
+    for (unsigned i = 0; i < now->made.rows; i++)
+        if (marnipode_row(now->sheet.start, now->sheet.size, i).length != length_of(&now->made, i))
+            return "has another job length when it is read by number";
+    lend(&now->output, MOST_PLAN_FILE);
+    marnipode_write_answer got = write_columns(&told, now->output.start, now->output.size);
+    if (got.number != 0 || got.size != now->size || guard_changed(&now->output) != NULL)
+        return "is not written back";
+    return holds(&now->output, now->bytes, now->size) ? NULL : "is not written back byte for byte";
+}
+
+static void compare_values(search *now)
+{
+    const char *fault = values_fault(now);
+    now->counted.answers++;
+    if (fault != NULL && tell_sheet(now))
+        printf(" %s\n", fault);
+}
+
 /* Every interval up to the horizon, and every amount with the horizon one below it, whose cells are the same. */
 static void compare_plan(search *now)
 {
@@ -236,17 +270,22 @@ static void compare_plan(search *now)
         compare_call(now, SHORTEST, amount);
         compare_call(now, VERDICT_BY_AMOUNT, amount - 1);
     }
+    compare_values(now);
     now->counted.sheets++;
     now->counted.sequences += now->found.sequences;
 }
 
-/* Each call has all lent cells compared; demand and explain, which are asked at every interval, the witness area too. */
+/*
+ * Each call has all lent cells compared; demand and explain, which are asked at every interval, the witness area too. One answer a
+ * sheet is that its values were told and written back.
+ */
 static void print_counts(const family *chosen, counts counted)
 {
     uint64_t intervals = counted.sheets * (HORIZON + 1);
     printf("%" PRIu64 " sheets, %" PRIu64 " intervals, %" PRIu64 " amounts, %" PRIu64 " sequences, ", counted.sheets, intervals,
            counted.sheets * LARGEST, counted.sequences);
-    printf("%" PRIu64 " answers, %" PRIu64 " cells, %" PRIu64 " bytes\n", counted.answers, counted.answers * LENT_CELLS,
+    printf("%" PRIu64 " answers, %" PRIu64 " cells, %" PRIu64 " bytes\n", counted.answers,
+           (counted.answers - counted.sheets) * LENT_CELLS,
            2 * intervals * MOST_JOBS);
     printf("explained: %" PRIu64 " that hold; overrun by the engine task %" PRIu64 ", by fixed tasks %" PRIu64 ", together %" PRIu64 "\n",
            counted.causes[MARNIPODE_CAUSE_NONE], counted.causes[MARNIPODE_CAUSE_ENGINE], counted.causes[MARNIPODE_CAUSE_FIXED],
@@ -275,6 +314,7 @@ int main(int argc, char **argv)
     now.sheet = make_area(MOST_PLAN_FILE, 0);
     now.cells = make_area(LENT_CELLS * CELL, 1);
     now.witness = make_area(MOST_JOBS, 2);
+    now.output = make_area(MOST_PLAN_FILE, 3);
     print_bounds(chosen);
     printf("intervals and horizons 0 to %d, amounts 1 to %d; each call is lent %d cells, demand and explain %d bytes\n", HORIZON,
            LARGEST, LENT_CELLS, MOST_JOBS);

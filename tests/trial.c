@@ -14,6 +14,7 @@ void start_trial(trial *now)
     now->cells = make_area(MOST_LENT, 1);
     now->twin_cells = make_area(MOST_LENT, 2);
     now->witness = make_area(MOST_WITNESS, 3);
+    now->output = make_area(MOST_OUTPUT, 4);
 }
 
 void forget_sheet(trial *now)

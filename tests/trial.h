@@ -13,6 +13,9 @@
 /* The longest sheet has three skipped fields of the greatest length; the longest witness of a case has fewer rows than the area. */
 enum { MOST_SHEET = 200000, MOST_WITNESS = 300 };
 
+/* The most room that a sheet is written into: more than the largest one takes. */
+enum { MOST_OUTPUT = 8192 };
+
 typedef struct {
     /* The text, the line in it, and what has been told of it. */
     const char *file;
@@ -36,6 +39,7 @@ typedef struct {
     area cells;
     area twin_cells;
     area witness;
+    area output;
 
     /* The most cells and witness bytes that a call is lent, and whether a call has filled `cells` for this sheet. */
     uint64_t most_cells;

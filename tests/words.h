@@ -3,6 +3,7 @@
 #define TESTS_WORDS_H
 
 #include "calls.h"
+#include "columns.h"
 #include "text.h"
 #include "trial.h"
 
@@ -30,6 +31,22 @@ void read_cell(trial *now, const line *said);
 
 /* why_words.c: why the verdict fails or holds. */
 void read_why(trial *now, const line *said);
+
+/* value_words.c: the sheet's values by number. */
+void read_mode(trial *now, const line *said);
+void read_row(trial *now, const line *said);
+void read_gap(trial *now, const line *said);
+void read_task(trial *now, const line *said);
+
+/* write_words.c: values, and the sheet that is written of them. */
+void read_values(trial *now, const line *said);
+void read_with(trial *now, const line *said);
+void read_without(trial *now, const line *said);
+void read_write(trial *now, const line *said);
+void read_reads(trial *now, const line *said);
+
+/* Tells of values of a sheet that is refused and so has none. */
+void hold_no_values(trial *now);
 
 /* Whether the line ends, from a word on, with `refused NUMBER PLACE`. */
 bool refusal_said(const line *said, size_t at, outcome *must);

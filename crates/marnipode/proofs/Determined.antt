@@ -8,20 +8,33 @@ use Rattle.desk.proofs.Determined.{demand-determined, margin-determined, shorte
 use Rattle.explain.proofs.Determined.{explain-determined}
 use Rattle.numbers.specs.Flat.{flatDemand, flatMargin, flatShortest, flatVerdict}
 use Rattle.explain_numbers.specs.Flat.{flatExplained}
-use Rattle.marnipode.specs.Exported.{Numbers, DemandExport, MarginExport, ShortestExport, VerdictByIntervalExport, VerdictByAmountExport, ExplainExport}
+use Rattle.marnipode.specs.Exported.{Numbers, DemandExport, MarginExport, ShortestExport, VerdictByIntervalExport, VerdictByAmountExport, ExplainExport, WriteExport}
 use Rattle.numbers.specs.declared.DemandForC.{DemandForC}
 use Rattle.numbers.specs.declared.MarginForC.{MarginForC}
 use Rattle.numbers.specs.declared.ShortestForC.{ShortestForC}
 use Rattle.numbers.specs.declared.VerdictForC.{VerdictForC}
 use Rattle.explain_numbers.specs.declared.ExplainForC.{ExplainForC}
+use Rattle.written.specs.Values.{Values}
+use Rattle.writer.specs.Calls.{WriteCall}
+use Rattle.writer.proofs.Determined.{write-determined}
+use Rattle.writer_numbers.specs.Flat.{flatWritten}
+use Rattle.writer_numbers.specs.declared.WriteForC.{WriteForC}
 use Rattle.marnipode.proofs.marnipode_judge.Kinds as judge
 use Rattle.marnipode.proofs.marnipode_judge.Reads as judge-reads
 use Rattle.marnipode.proofs.marnipode_label.Kinds as label
 use Rattle.marnipode.proofs.marnipode_label.Reads as label-reads
 use Rattle.marnipode.proofs.marnipode_field_at.Kinds as field-at
 use Rattle.marnipode.proofs.marnipode_field_at.Reads as field-at-reads
+use Rattle.marnipode.proofs.marnipode_mode.Kinds as mode
+use Rattle.marnipode.proofs.marnipode_mode.Reads as mode-reads
+use Rattle.marnipode.proofs.marnipode_row.Kinds as row
+use Rattle.marnipode.proofs.marnipode_row.Reads as row-reads
+use Rattle.marnipode.proofs.marnipode_gap.Kinds as gap
+use Rattle.marnipode.proofs.marnipode_gap.Reads as gap-reads
+use Rattle.marnipode.proofs.marnipode_task.Kinds as task
+use Rattle.marnipode.proofs.marnipode_task.Reads as task-reads
 
--- the three exports that take no cells: the contract says which struct it is
+-- the exports that are lent nothing: the contract says which struct it is
 pub judge-export-one : Determines 1 judge.ps judge.r judge-reads.Learnt (λ κs x. x)
 judge-export-one = one-value 1 judge.ps judge.r (λ κs x. x) _
 
@@ -30,6 +43,18 @@ label-export-one = one-value 1 label.ps label.r (λ κs x. x) _
 
 pub field-at-export-one : Determines 1 field-at.ps field-at.r field-at-reads.Learnt (λ κs x. x)
 field-at-export-one = one-value 1 field-at.ps field-at.r (λ κs x. x) _
+
+pub mode-export-one : Determines 1 mode.ps mode.r mode-reads.Learnt (λ κs x. x)
+mode-export-one = one-value 1 mode.ps mode.r (λ κs x. x) _
+
+pub row-export-one : Determines 1 row.ps row.r row-reads.Learnt (λ κs x. x)
+row-export-one = one-value 1 row.ps row.r (λ κs x. x) _
+
+pub gap-export-one : Determines 1 gap.ps gap.r gap-reads.Learnt (λ κs x. x)
+gap-export-one = one-value 1 gap.ps gap.r (λ κs x. x) _
+
+pub task-export-one : Determines 1 task.ps task.r task-reads.Learnt (λ κs x. x)
+task-export-one = one-value 1 task.ps task.r (λ κs x. x) _
 
 -- one answer has one struct of numbers
 same-numbers : {A N : Type 0} (flat : A → N) (x y : A) (n m : N) → x ≡ y → n ≡ flat x → m ≡ flat y → n ≡ m
@@ -76,3 +101,8 @@ module _ (bytes : List ℕ) (number : ℕ) (cells : List ℕ) where
   explain-export-determined area n m cells₁ cells₂ area₁ area₂ (x, p, e) (y, q, f) =
       let same = explain-determined bytes number cells area x y cells₁ cells₂ area₁ area₂ p q in
       (same-numbers flatExplained x y n m (same .0) e f, same .1, same .2)
+
+-- and so is what was written, with every byte of the output
+pub write-export-determined : (values : Values) (output : List ℕ) (n m : WriteForC) (left right : List ℕ)
+    → WriteExport values output n left → WriteExport values output m right → (n ≡ m) × (left ≡ right)
+write-export-determined values output = export-determined (WriteCall values output) (write-determined values output) flatWritten

@@ -16,6 +16,11 @@ use Rattle.numbers.specs.declared.ShortestForC.{ShortestForC}
 use Rattle.numbers.specs.declared.VerdictForC.{VerdictForC}
 use Rattle.explain_numbers.specs.Flat.{flatExplained}
 use Rattle.explain_numbers.specs.declared.ExplainForC.{ExplainForC}
+use Rattle.written.specs.Values.{Values}
+use Rattle.writer.specs.Calls.{WriteCall}
+use Rattle.writer.specs.declared.WriteAnswer.{WriteAnswer}
+use Rattle.writer_numbers.specs.Flat.{flatWritten}
+use Rattle.writer_numbers.specs.declared.WriteForC.{WriteForC}
 
 -- an answer of a type A that is allowed and has these numbers
 abbrev pub Numbers : {A N : Type 0} → (A → Type 0) → (A → N) → N → Type 0
@@ -42,3 +47,6 @@ VerdictByAmountExport bytes horizon cells numbers cells′ =
 abbrev pub ExplainExport : List ℕ → ℕ → List ℕ → List ℕ → ExplainForC → List ℕ → List ℕ → Type 0
 ExplainExport bytes horizon cells area numbers cells′ area′ =
     Numbers (λ (explained : Explained). ExplainCall bytes horizon cells area explained cells′ area′) flatExplained numbers
+
+abbrev pub WriteExport : Values → List ℕ → WriteForC → List ℕ → Type 0
+WriteExport values output numbers output′ = Numbers (λ (answer : WriteAnswer). WriteCall values output answer output′) flatWritten numbers

@@ -15,11 +15,22 @@ use numbers::label_numbers;
 use numbers::margin_numbers;
 use numbers::shortest_numbers;
 use numbers::verdict_numbers;
+use writer_numbers::ModeForC;
+use writer_numbers::RowForC;
+use writer_numbers::TaskForC;
+use writer_numbers::WriteForC;
+use writer_numbers::mode_numbers;
+use writer_numbers::row_numbers;
+use writer_numbers::task_numbers;
+use writer_numbers::write_numbers;
 ghost use mathlib.Core.Path.{_≡_};
 ghost use Rattle.sheet.specs.Judging.{judged};
 ghost use Rattle.fields.specs.Reading.{fieldAt};
 ghost use Rattle.numbers.specs.Flat.{flatJudged, flatLabel, flatStep};
-ghost use Rattle.marnipode.specs.Exported.{DemandExport, MarginExport, ShortestExport, VerdictByIntervalExport, VerdictByAmountExport, ExplainExport};
+ghost use Rattle.contents.specs.Contents.{modeNumbered, rowNumbered, gapNumbered, taskNumbered};
+ghost use Rattle.written.specs.Values.{valuesFrom};
+ghost use Rattle.writer_numbers.specs.Flat.{flatMode, flatRow, flatTask};
+ghost use Rattle.marnipode.specs.Exported.{DemandExport, MarginExport, ShortestExport, VerdictByIntervalExport, VerdictByAmountExport, ExplainExport, WriteExport};
 
 #[no_mangle]
 pub extern "C" fn marnipode_judge(bytes: &[u8]) -> JudgeForC
@@ -101,4 +112,65 @@ pub extern "C" fn marnipode_explain(
     ensures { λ r. ⌜ ExplainExport (now (bytes .entry)) horizon (now (cells .entry)) (now (witness .entry)) r (now (cells .exit)) (now (witness .exit)) ⌝ }
 {
     explain_numbers(explain::explain(bytes, horizon, cells, witness))
+}
+
+// The columns come one by one; the header has a struct of them, and a function that hands them on.
+#[no_mangle]
+pub extern "C" fn marnipode_write_columns(
+    label: &[u8],
+    boundaries: &[u16],
+    lengths: &[u16],
+    speeds: &[u16],
+    deadlines: &[u16],
+    sets: &[u64],
+    gaps: &[u16],
+    task_lengths: &[u16],
+    task_periods: &[u16],
+    task_deadlines: &[u16],
+    output: &mut [u8],
+) -> WriteForC
+    ensures { λ r. ⌜ WriteExport (valuesFrom (now (label .entry)) (now (boundaries .entry)) (now (lengths .entry)) (now (speeds .entry)) (now (deadlines .entry)) (now (sets .entry)) (now (gaps .entry)) (now («task_lengths» .entry)) (now («task_periods» .entry)) (now («task_deadlines» .entry))) (now (output .entry)) r (now (output .exit)) ⌝ }
+{
+    write_numbers(writer::write(
+        label,
+        boundaries,
+        lengths,
+        speeds,
+        deadlines,
+        sets,
+        gaps,
+        task_lengths,
+        task_periods,
+        task_deadlines,
+        output,
+    ))
+}
+
+#[no_mangle]
+pub extern "C" fn marnipode_mode(bytes: &[u8], number: usize) -> ModeForC
+    ensures { λ r. ⌜ r ≡ flatMode (modeNumbered (now (bytes .entry)) number) ⌝ }
+{
+    mode_numbers(contents::mode_numbered(bytes, number))
+}
+
+#[no_mangle]
+pub extern "C" fn marnipode_row(bytes: &[u8], number: usize) -> RowForC
+    ensures { λ r. ⌜ r ≡ flatRow (rowNumbered (now (bytes .entry)) number) ⌝ }
+{
+    row_numbers(contents::row_numbered(bytes, number))
+}
+
+#[no_mangle]
+pub extern "C" fn marnipode_gap(bytes: &[u8], from: usize, to: usize) -> u16
+    ensures { λ r. ⌜ r ≡ gapNumbered (now (bytes .entry)) from to .0 ⌝ }
+{
+    let gap = contents::gap_numbered(bytes, from, to);
+    gap.0
+}
+
+#[no_mangle]
+pub extern "C" fn marnipode_task(bytes: &[u8], number: usize) -> TaskForC
+    ensures { λ r. ⌜ r ≡ flatTask (taskNumbered (now (bytes .entry)) number) ⌝ }
+{
+    task_numbers(contents::task_numbered(bytes, number))
 }

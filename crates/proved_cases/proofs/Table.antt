@@ -18,8 +18,8 @@ use Rattle.fields.specs.Fields.{lineOf, fields}
 use Rattle.fields.specs.Reading.{fieldAt}
 use Rattle.fields.specs.Values.{emptySheet}
 use Rattle.sheet.specs.Values.{jobLength}
-use Rattle.rules.specs.Rules.{missing, outOfOrder, wrongLength, unlikeSet, full, badByte, badRpm, unknownIn, unknownFollower, commonRules, modeRules, rowRules, taskRules}
-use Rattle.sheet.specs.Content.{badText, gapShorter, textRules, rowGapRules}
+use Rattle.rules.specs.Rules.{missing, outOfOrder, wrongLength, unlikeSet, full, badByte, badText, badRpm, unknownIn, unknownFollower, commonRules, textRules, modeRules, rowRules, taskRules}
+use Rattle.sheet.specs.Content.{gapShorter, rowGapRules}
 use Rattle.sheet.specs.Judging.{refusal, headRules, ownRules, withField, endJudged, onField, walk, judged}
 use Rattle.sheet.specs.Meaning.{graphOf, eachTask, tasksOf}
 use Rattle.sheet.specs.Proper.{Bytes}

@@ -49,6 +49,10 @@ full tag count = leb (lineOf tag .most) count
 unfoldable pub badByte : ℕ → Bool
 badByte byte = ltb byte 0x20 or ltb 0x7E byte
 
+-- rule 7: a label with a byte outside 0x20 to 0x7E
+unfoldable pub badText : List ℕ → ℕ → ℕ → Bool
+badText bytes start size = anyFrom (λ at. badByte (getD bytes at 0)) start size
+
 -- rule 7: a speed of 0 or above the highest
 unfoldable pub badRpm : Rpm → Bool
 badRpm speed = eqb (speed .0) 0 or ltb rpmLimit (speed .0)
@@ -78,6 +82,10 @@ commonRules tag last size unlike count =
     ∷ 5 when unlike
     ∷ 6 when (full tag count)
     ∷ []
+
+-- the rule of a label's bytes
+unfoldable pub textRules : List ℕ → ℕ → ℕ → List Rule
+textRules bytes start size = 7 when (badText bytes start size) ∷ []
 
 -- the rules of a mode's numbers; rule 8: a boundary that is not above the one before
 unfoldable pub modeRules : Tally → Mode → List Rule

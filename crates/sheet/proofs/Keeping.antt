@@ -12,8 +12,8 @@ use Rattle.fields.specs.Fields.{isEnd}
 use Rattle.fields.specs.Reading.{fieldAt, modeAt, rowAt, taskAt}
 use Rattle.fields.specs.Values.{emptySheet}
 use Rattle.sheet.specs.Values.{withLabel, withMode, withRow, withTask}
-use Rattle.rules.specs.Rules.{outOfOrder, wrongLength, unlikeSet, unknownFollower, commonRules, modeRules, taskRules}
-use Rattle.sheet.specs.Content.{badText, textRules, rowGapRules}
+use Rattle.rules.specs.Rules.{outOfOrder, wrongLength, unlikeSet, unknownFollower, commonRules, modeRules, taskRules, badText, textRules}
+use Rattle.sheet.specs.Content.{rowGapRules}
 use Rattle.sheet.specs.Judging.{refusal, headRules, ownRules, fieldRules, withField, checked, endJudged, onField, walk, judged}
 use Rattle.fields.specs.declared.table.Kind.{Kind}
 use Rattle.fields.specs.declared.table.Kind.the-variants.{RefusedTag, LabelField, ModeField, RowField, TaskField, EndField, SkippedField}

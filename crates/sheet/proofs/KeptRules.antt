@@ -55,7 +55,7 @@ pub gaps-kept : (bytes : List ℕ) (place count : ℕ) (bound : Ticks) → gapSh
 unfolding gapShorter
 gaps-kept bytes place count bound e i h = ltb-false _ _ (any-false _ 0 count e i (omega arith) (omega arith))
 
-nothing : (next : Next) → isAt next ≡ false → next ≡ Nothing
+pub nothing : (next : Next) → isAt next ≡ false → next ≡ Nothing
 nothing (At row) e = absurd (true≢false e)
 nothing Nothing e = refl
 

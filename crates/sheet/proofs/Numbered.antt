@@ -10,8 +10,8 @@ use Rattle.fields.specs.Fields.{lineOf, fields}
 use Rattle.sheet.specs.Judging.{headRules, ownRules, fieldRules}
 use Rattle.fields.specs.Limits.{headSize, gapSize, modeLimit, rowLimit, taskLimit}
 use Rattle.fields.specs.Reading.{rowAt}
-use Rattle.rules.specs.Rules.{outOfOrder, wrongLength, unlikeSet, full, followerCount, commonRules, modeRules, rowRules, taskRules}
-use Rattle.sheet.specs.Content.{textRules, rowGapRules}
+use Rattle.rules.specs.Rules.{outOfOrder, wrongLength, unlikeSet, full, followerCount, commonRules, modeRules, rowRules, taskRules, textRules}
+use Rattle.sheet.specs.Content.{rowGapRules}
 use Rattle.fields.specs.declared.table.Kind.{Kind}
 use Rattle.fields.specs.declared.table.Kind.the-variants.{RefusedTag, LabelField, ModeField, RowField, TaskField, EndField, SkippedField}
 use Rattle.fields.specs.declared.values.Mode.{Mode}

@@ -11,8 +11,8 @@ use Rattle.fields.specs.Fields.{isEnd}
 use Rattle.fields.specs.Reading.{fieldAt, modeAt, rowAt, taskAt}
 use Rattle.fields.specs.Values.{emptySheet}
 use Rattle.sheet.specs.Values.{withLabel, withMode, withRow, withTask}
-use Rattle.rules.specs.Rules.{unlikeSet, unknownFollower, commonRules, modeRules, taskRules}
-use Rattle.sheet.specs.Content.{textRules, rowGapRules}
+use Rattle.rules.specs.Rules.{unlikeSet, unknownFollower, commonRules, modeRules, taskRules, textRules}
+use Rattle.sheet.specs.Content.{rowGapRules}
 use Rattle.fields.specs.declared.table.Kind.{Kind}
 use Rattle.fields.specs.declared.table.Kind.the-variants.{RefusedTag, LabelField, ModeField, RowField, TaskField, EndField, SkippedField}
 use Rattle.fields.specs.declared.reader.Step.{Step}

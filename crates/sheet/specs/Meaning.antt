@@ -10,9 +10,20 @@ use Rattle.fields.specs.Limits.{gapSize}
 use Rattle.fields.specs.Reading.{wordAt}
 use Rattle.fields.specs.Values.{noRow}
 use Rattle.sheet.specs.Values.{jobLength}
+use Rattle.fields.specs.declared.values.Mode.{Mode}
 use Rattle.fields.specs.declared.values.Row.{Row}
 use Rattle.fields.specs.declared.values.Task.{Task}
 use Rattle.fields.specs.declared.values.Sheet.{Sheet}
+
+-- the modes, the rows and the fixed tasks that a sheet counts
+abbrev pub modesIn : Sheet → List Mode
+modesIn sheet = take (sheet .tally .modes) (sheet .modes)
+
+abbrev pub rowsIn : Sheet → List Row
+rowsIn sheet = take (sheet .tally .rows) (sheet .rows)
+
+abbrev pub tasksIn : Sheet → List Task
+tasksIn sheet = take (sheet .tally .tasks) (sheet .tasks)
 
 -- the row of a number
 abbrev pub rowOf : Sheet → ℕ → Row
@@ -20,7 +31,7 @@ rowOf sheet k = getD (sheet .rows) k noRow
 
 -- the job length of a row
 abbrev pub lengthOf : Sheet → ℕ → ℕ
-lengthOf sheet k = jobLength (take (sheet .tally .modes) (sheet .modes)) (rowOf sheet k .speed) .0
+lengthOf sheet k = jobLength (modesIn sheet) (rowOf sheet k .speed) .0
 
 -- the gap from a row to a follower: gaps stand one for each row of the set, lowest first; 0 where the row is no follower
 abbrev pub gapOf : List ℕ → Row → ℕ → ℕ
@@ -49,4 +60,4 @@ eachTask (task ∷ tasks) = timesOf task ∷ eachTask tasks
 
 -- the fixed tasks of a sheet
 unfoldable pub tasksOf : Sheet → List fixed.Task
-tasksOf sheet = eachTask (take (sheet .tally .tasks) (sheet .tasks))
+tasksOf sheet = eachTask (tasksIn sheet)

@@ -1,9 +1,10 @@
 -- The values of a sheet: one field more, and the job length of a speed.
-use Prim.Native.Nat.{ℕ, _+_}
+use Prim.Native.Nat.{ℕ}
 use mathlib.Core.List.{List, [], _∷_}
 use lib.ListN.{set}
 use lib.Dec.{leb}
 use Rattle.fields.specs.Deciding.{pick}
+use Rattle.rules.specs.Counting.{countLabel, countMode, countRow, countTask}
 use Rattle.fields.specs.declared.units.Rpm.{Rpm}
 use Rattle.fields.specs.declared.units.Ticks.{Ticks}
 use Rattle.fields.specs.declared.values.Mode.{Mode}
@@ -16,15 +17,7 @@ abbrev pub withLabel : Sheet → ℕ → ℕ → Sheet
 withLabel sheet start size =
     record {
       label = record { start = start; size = size };
-      tally =
-          record {
-            last = 1;
-            modes = sheet .tally .modes;
-            rows = sheet .tally .rows;
-            tasks = sheet .tally .tasks;
-            top = sheet .tally .top;
-            fastest = sheet .tally .fastest;
-          };
+      tally = countLabel (sheet .tally);
       modes = sheet .modes;
       rows = sheet .rows;
       tasks = sheet .tasks;
@@ -35,15 +28,7 @@ abbrev pub withMode : Sheet → Mode → Sheet
 withMode sheet mode =
     record {
       label = sheet .label;
-      tally =
-          record {
-            last = 2;
-            modes = sheet .tally .modes + 1;
-            rows = sheet .tally .rows;
-            tasks = sheet .tally .tasks;
-            top = mode .boundary;
-            fastest = sheet .tally .fastest;
-          };
+      tally = countMode (sheet .tally) (mode .boundary);
       modes = set (sheet .modes) (sheet .tally .modes) mode;
       rows = sheet .rows;
       tasks = sheet .tasks;
@@ -54,15 +39,7 @@ abbrev pub withRow : Sheet → Row → Sheet
 withRow sheet row =
     record {
       label = sheet .label;
-      tally =
-          record {
-            last = 3;
-            modes = sheet .tally .modes;
-            rows = sheet .tally .rows + 1;
-            tasks = sheet .tally .tasks;
-            top = sheet .tally .top;
-            fastest = row .speed;
-          };
+      tally = countRow (sheet .tally) (row .speed);
       modes = sheet .modes;
       rows = set (sheet .rows) (sheet .tally .rows) row;
       tasks = sheet .tasks;
@@ -73,15 +50,7 @@ abbrev pub withTask : Sheet → Task → Sheet
 withTask sheet task =
     record {
       label = sheet .label;
-      tally =
-          record {
-            last = 4;
-            modes = sheet .tally .modes;
-            rows = sheet .tally .rows;
-            tasks = sheet .tally .tasks + 1;
-            top = sheet .tally .top;
-            fastest = sheet .tally .fastest;
-          };
+      tally = countTask (sheet .tally);
       modes = sheet .modes;
       rows = sheet .rows;
       tasks = set (sheet .tasks) (sheet .tally .tasks) task;

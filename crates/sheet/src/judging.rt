@@ -12,11 +12,15 @@ use fields::values::Row;
 use fields::values::Sheet;
 use fields::values::Tally;
 use fields::values::Task;
-use rules::bad_byte;
 use rules::common_number;
+use rules::counting::count_label;
+use rules::counting::count_mode;
+use rules::counting::count_row;
+use rules::counting::count_task;
 use rules::mode_number;
 use rules::row_number;
 use rules::task_number;
+use rules::text::text_number;
 use rules::unknown_follower;
 use rules::unlike_set;
 ghost use mathlib.Core.Path.{_≡_};
@@ -26,7 +30,7 @@ ghost use Rattle.fields.specs.Deciding.{firstBroken};
 ghost use Rattle.fields.specs.Limits.{modeLimit, rowLimit, taskLimit, headSize, gapSize};
 ghost use Rattle.fields.specs.Reading.{modeAt, rowAt, taskAt};
 ghost use Rattle.rules.specs.Rules.{followerCount};
-ghost use Rattle.sheet.specs.Content.{badText, gapShorter, textRules, rowGapRules};
+ghost use Rattle.sheet.specs.Content.{gapShorter, rowGapRules};
 ghost use Rattle.sheet.specs.Values.{withLabel, withMode, withRow, withTask};
 ghost use Rattle.sheet.specs.Judging.{refusal, headRules, ownRules, fieldRules, withField, endJudged};
 
@@ -78,17 +82,6 @@ fn own_number(bytes: &[u8], tally: Tally, kind: Kind, start: usize, size: usize)
     }
 }
 
-// Rule 7 of a label's bytes.
-fn text_number(bytes: &[u8], start: usize, size: usize) -> u8
-    requires { ⌜ start + size ≤ length (now bytes) ⌝ }
-    ensures { λ r. ⌜ r ≡ firstBroken (textRules (now (bytes .entry)) start size) ⌝ }
-{
-    if bad_text(bytes, start, size) {
-        return 7;
-    }
-    0
-}
-
 // The end of the sheet, where the end field at `at` breaks no rule by itself and the next field would start at `next`: rule 9, then rule 4.
 pub(crate) fn judge_end(bytes: &[u8], sheet: Sheet, at: usize, next: usize) -> Judged
     ensures { λ r. ⌜ r ≡ endJudged (now (bytes .entry)) sheet at next ⌝ }
@@ -137,22 +130,6 @@ pub(crate) fn with_field(bytes: &[u8], sheet: Sheet, kind: Kind, start: usize, s
         Kind::EndField => sheet,
         Kind::SkippedField => sheet,
     }
-}
-
-// Rule 7 of a label.
-fn bad_text(bytes: &[u8], start: usize, size: usize) -> bool
-    requires { ⌜ start + size ≤ length (now bytes) ⌝ }
-    ensures { λ r. ⌜ r ≡ badText (now (bytes .entry)) start size ⌝ }
-{
-    let mut at = start;
-    let end = start + size;
-    while at < end {
-        if bad_byte(bytes[at]) {
-            return true;
-        }
-        at += 1;
-    }
-    false
 }
 
 // The rules of a row's numbers and gaps.
@@ -231,8 +208,7 @@ fn with_label(sheet: Sheet, start: usize, size: usize) -> Sheet
         start: start,
         size: size,
     };
-    let mut tally = sheet.tally;
-    tally.last = 1;
+    let tally = count_label(sheet.tally);
     next.label = part;
     next.tally = tally;
     next
@@ -243,12 +219,8 @@ fn with_mode(sheet: Sheet, mode: Mode) -> Sheet
     ensures { λ r. ⌜ r ≡ withMode sheet mode ⌝ }
 {
     let mut next = sheet;
-    let mut tally = sheet.tally;
-    let number = tally.modes;
-    let boundary = mode.boundary;
-    tally.last = 2;
-    tally.modes = number + 1;
-    tally.top = boundary;
+    let number = sheet.tally.modes;
+    let tally = count_mode(sheet.tally, mode.boundary);
     next.modes[number] = mode;
     next.tally = tally;
     next
@@ -259,12 +231,8 @@ fn with_row(sheet: Sheet, row: Row) -> Sheet
     ensures { λ r. ⌜ r ≡ withRow sheet row ⌝ }
 {
     let mut next = sheet;
-    let mut tally = sheet.tally;
-    let number = tally.rows;
-    let speed = row.speed;
-    tally.last = 3;
-    tally.rows = number + 1;
-    tally.fastest = speed;
+    let number = sheet.tally.rows;
+    let tally = count_row(sheet.tally, row.speed);
     next.rows[number] = row;
     next.tally = tally;
     next
@@ -275,10 +243,8 @@ fn with_task(sheet: Sheet, task: Task) -> Sheet
     ensures { λ r. ⌜ r ≡ withTask sheet task ⌝ }
 {
     let mut next = sheet;
-    let mut tally = sheet.tally;
-    let number = tally.tasks;
-    tally.last = 4;
-    tally.tasks = number + 1;
+    let number = sheet.tally.tasks;
+    let tally = count_task(sheet.tally);
     next.tasks[number] = task;
     next.tally = tally;
     next

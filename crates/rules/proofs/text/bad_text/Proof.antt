@@ -1,16 +1,15 @@
 -- `bad_text` meets its contract. The bytes that are left decide as all of them do.
 use Prim.Native.Nat.{_-_, _≤_}
 use Rattle.fields.proofs.Deciding.{told, any-hit, any-miss, any-none}
-use Rattle.sheet.proofs.judging.bad_text.Statement.{statement}
+use Rattle.rules.proofs.text.bad_text.Statement.{statement}
 use Rattle.fields.specs.Deciding.{anyFrom}
-use Rattle.rules.specs.Rules.{badByte}
-use Rattle.sheet.specs.Content.{badText}
+use Rattle.rules.specs.Rules.{badByte, badText}
 use borrow.Author.Needs.{needs}
 use lib.ListN.{length, getD}
 use mathlib.Core.Path.{_≡_, _∙_, refl, sym}
 use native.Mathlib.Nat.{add-sub-cancel-left}
 use native.Mathlib.Omega.{arith}
-use Rattle.sheet.proofs.judging.bad_text.Tie as tie
+use Rattle.rules.proofs.text.bad_text.Tie as tie
 
 abbrev Inv-loop : tie.InvT-loop
 Inv-loop bytes start size at₀ end at = (at ≤ end) × (end ≤ length bytes) × (badText bytes start size ≡ anyFrom (λ k. badByte (getD bytes k 0)) at (end - at))

@@ -1,10 +1,10 @@
 -- `text_number` meets its contract.
 use Rattle.fields.proofs.Deciding.{judging}
-use Rattle.sheet.proofs.judging.text_number.Statement.{statement}
+use Rattle.rules.proofs.text.text_number.Statement.{statement}
 use Rattle.fields.specs.Deciding.{firstBroken}
-use Rattle.sheet.specs.Content.{textRules}
+use Rattle.rules.specs.Rules.{textRules}
 use borrow.Author.Needs.{needs}
-use Rattle.sheet.proofs.judging.text_number.Tie as tie
+use Rattle.rules.proofs.text.text_number.Tie as tie
 
 pub text-number-spec : {M : Type 1} → statement M
 unfolding textRules firstBroken

@@ -1,0 +1,4 @@
+pub mod Told
+pub mod SameNumbers
+pub mod GapColumn
+pub mod Determined

@@ -1,0 +1,39 @@
+-- `mode_numbered` meets its contract: a mode that the sheet counts stands in the array.
+use Prim.Native.Nat.{_≤_, _<_}
+use native.Mathlib.Omega.{arith}
+use denote.Ref.{now}
+use borrow.Author.Needs.{needs}
+use Rattle.fields.specs.Limits.{modeLimit}
+use Rattle.sheet.proofs.Counts.{modes-within}
+use Rattle.contents.proofs.Told.{mode-told, mode-past}
+use Rattle.contents.proofs.mode_numbered.Statement.{statement}
+use Rattle.contents.proofs.mode_numbered.Tie as tie
+
+-- the number is below the array's length
+within : (c : tie.Then1) → c .before .before .before .before .before .before .before .args .number < modeLimit
+within c =
+    let j = c .before .before .before .before .before in
+    let counted : j .judge .result .sheet .tally .modes ≤ modeLimit = rw (j .judge .ensures) (modes-within _ (λ i. omega (arith, j .before .shared-slice-known .given i))) in
+    omega arith
+
+returns : tie.Need-returns
+returns c =
+    let j = c .before .before .before .before .before .before in
+    let a = j .before .before .args in
+    mode-told (now (a .bytes)) (j .judge .result) (j .judge .ensures) (a .number) (omega arith)
+
+returns-2 : tie.Need-returns-2
+returns-2 c =
+    let j = c .before .before .before .before .before in
+    let a = j .before .before .args in
+    mode-past (now (a .bytes)) (j .judge .result) (j .judge .ensures) (a .number) (omega arith)
+
+pub mode-numbered-spec : {M : Type 1} → statement M
+mode-numbered-spec =
+    tie.close
+    (tie.spec
+    (λ c κs. search needs)
+    (λ c. omega (arith, within c))
+    within
+    returns
+    returns-2)

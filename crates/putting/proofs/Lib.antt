@@ -1,0 +1,4 @@
+pub mod Behind
+pub mod BehindHead
+pub mod Standing
+pub mod UnbrokenColumns

@@ -1,0 +1,4 @@
+pub mod Answering
+pub mod Determined
+pub mod RoundTrip
+pub mod Room
