@@ -1,11 +1,10 @@
 -- How much output a caller can count on to be enough.
-use Prim.Native.Nat.{ℕ, _+_, _*_, _≤_}
+use Prim.Native.Nat.{ℕ, _≤_}
 use native.Mathlib.Omega.{arith}
 use mathlib.Core.Path.{_≡_, _∙_, refl, sym}
 use mathlib.Core.List.{List}
 use lib.ListN.{length}
 use borrow.Author.Tests.{le-ltb}
-use Rattle.fields.specs.Limits.{modeLimit, rowLimit, taskLimit, labelLimit, headSize, gapSize}
 use Rattle.sheet.specs.Judging.{judged}
 use Rattle.sheet.specs.declared.Answer.{Answer}
 use Rattle.sheet.specs.declared.Answer.the-variants as sheet-case
@@ -15,16 +14,12 @@ use Rattle.beginning.proofs.Beginnings.{comes-to-answer}
 use Rattle.written.specs.Values.{Values}
 use Rattle.written.specs.Written.{written}
 use Rattle.written.proofs.JudgedWritten.{accepted-kept}
-use Rattle.written.proofs.Sizes.{written-most}
+use Rattle.written.proofs.Sizes.{mostWritten, written-most}
 use Rattle.writer.specs.Calls.{writeRules, WriteRefuses, WriteGives, WriteCall}
 use Rattle.writer.specs.declared.WriteAnswer.{WriteAnswer}
 use Rattle.writer.specs.declared.WriteAnswer.the-variants.{Written, Refused}
 
--- the most bytes that a sheet is written as
-abbrev pub mostWritten : ℕ
-mostWritten = 6 + labelLimit + 7 * modeLimit + (3 + headSize) * rowLimit + gapSize * (rowLimit * rowLimit) + 9 * taskLimit
-
--- an output of so many is never too short
+-- an output of as many bytes as are written at most is never too short
 pub output-suffices : (values : Values) (output : List ℕ) (answer : WriteAnswer) (output′ : List ℕ) → mostWritten ≤ length output → WriteCall values output answer output′
     → answer ≡ Refused 15 0 → ⊥
 output-suffices values output answer output′ enough call = go (judged (written values) .answer) refl call

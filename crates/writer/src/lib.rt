@@ -3,8 +3,9 @@ use columns::values_number;
 use fields::values::Sheet;
 use putting::put_sheet;
 ghost use mathlib.Core.Path.{_≡_};
-ghost use Prim.Native.Nat.{_+_, _*_, _≤_};
-ghost use Rattle.fields.specs.Limits.{modeLimit, rowLimit, taskLimit, labelLimit, headSize, gapSize};
+ghost use Prim.Native.Nat.{_*_, _≤_};
+ghost use Rattle.fields.specs.Limits.{modeLimit, rowLimit, taskLimit, labelLimit};
+ghost use Rattle.written.specs.Judging.{sheetSize};
 ghost use Rattle.written.specs.Values.{valuesFrom};
 ghost use Rattle.writer.specs.Calls.{WriteCall};
 ghost use Rattle.writer.specs.declared.WriteAnswer.the-variants.{Refused};
@@ -85,7 +86,7 @@ fn refused(number: u8) -> WriteAnswer
 // How many bytes a sheet has: each field has three before its content, and the end field has no more.
 fn size_of(label: usize, modes: usize, rows: usize, gaps: usize, tasks: usize) -> usize
     requires { ⌜ (label ≤ labelLimit) × (modes ≤ modeLimit) × (rows ≤ rowLimit) × (gaps ≤ rowLimit * rowLimit) × (tasks ≤ taskLimit) ⌝ }
-    ensures { λ r. ⌜ r ≡ 6 + label + 7 * modes + (3 + headSize) * rows + gapSize * gaps + 9 * tasks ⌝ }
+    ensures { λ r. ⌜ r ≡ sheetSize label modes rows gaps tasks ⌝ }
 {
     6 + label + 7 * modes + (3 + Sheet::HEAD) * rows + Sheet::GAP * gaps + 9 * tasks
 }

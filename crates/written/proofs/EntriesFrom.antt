@@ -62,6 +62,7 @@ taskAmong lengths periods deadlines at =
 abbrev pub tasksFrom : List ℕ → List ℕ → List ℕ → ℕ → List Entry
 tasksFrom lengths periods deadlines at = taskEntries (drop at lengths) (drop at periods) (drop at deadlines)
 
+-- fixed tasks whose columns part at once
 tasks-cut : (lengths periods deadlines : List ℕ) → (0 < length lengths → 0 < length periods → 0 < length deadlines → ⊥)
     → (length lengths ≤ 0 → length periods ≤ 0 → length deadlines ≤ 0 → ⊥) → taskEntries lengths periods deadlines ≡ CutEntry 4 ∷ []
 unfolding taskEntries
@@ -133,6 +134,7 @@ rows-next speeds deadlines sets gaps at from to more-speeds more-deadlines more-
     let n = followerCount (getD sets at 0) in
     rw (number-there at speeds more-speeds, number-there at deadlines more-deadlines, number-there at sets more-sets, own-gaps gaps from to n reach, gaps-behind gaps from to n reach) refl
 
+-- rows whose columns part at once
 rows-cut : (speeds deadlines sets gaps : List ℕ) → (0 < length speeds → 0 < length deadlines → 0 < length sets → ⊥)
     → (length speeds ≡ 0 → length deadlines ≡ 0 → length sets ≡ 0 → length gaps ≡ 0 → ⊥) → rowEntries speeds deadlines sets gaps ≡ CutEntry 3 ∷ []
 unfolding rowEntries

@@ -18,7 +18,7 @@ use Rattle.rules.specs.Rules.{followerCount, unknownIn}
 use Rattle.fields.specs.declared.values.Tally.{Tally}
 use Rattle.fields.proofs.Deciding.{Kept, both-kept, any-false}
 use Rattle.sheet.proofs.KeptRules.{nothing}
-use Rattle.written.specs.Judging.{noTally, entryRules, countEntry, entriesRules, countEntries, unknownAmong, valuesRules}
+use Rattle.written.specs.Judging.{sheetSize, noTally, entryRules, countEntry, entriesRules, countEntries, unknownAmong, valuesRules}
 use Rattle.written.specs.Reading.{valuesIn}
 use Rattle.written.specs.Values.{Values, Entry, LabelEntry, ModeEntry, RowEntry, TaskEntry, CutEntry, modeEntries, rowEntries, taskEntries, entries}
 use Rattle.written.specs.Written.{words, tagOf, contentOf, fieldOf, fieldsOf, field, written}
@@ -115,12 +115,15 @@ column-most number held count column same =
     let many : length column ≡ min count (length held) = sym (ap length same) ∙ length-map (take count held) number ∙ length-take count held in
     (omega arith, omega arith)
 
--- how many bytes values take: each field has three before its content, and the end field has no more
+-- how many bytes values take, and how many they take at most
 abbrev pub sizeOf : Values → ℕ
-sizeOf values =
-    6 + length (values .label) + 7 * length (values .boundaries) + (3 + headSize) * length (values .speeds) + gapSize * length (values .gaps) + 9 * length (values .taskLengths)
+sizeOf values = sheetSize (length (values .label)) (length (values .boundaries)) (length (values .speeds)) (length (values .gaps)) (length (values .taskLengths))
+
+abbrev pub mostWritten : ℕ
+mostWritten = sheetSize labelLimit modeLimit rowLimit (rowLimit * rowLimit) taskLimit
 
 module _ (values : Values) (none : firstBroken (valuesRules values) ≡ 0) where
+  -- no field breaks a rule, and the sheet that is read has these values
   fields-none : firstBroken (entriesRules noTally (entries values)) ≡ 0
   fields-none = kept-written values none
 
@@ -150,6 +153,7 @@ module _ (values : Values) (none : firstBroken (valuesRules values) ≡ 0) where
   unfolding entries entriesRules
   label-most = label-says noTally (values .label) (both-kept (entryRules noTally (LabelEntry (values .label))) _ kept .0)
 
+  -- no entry is cut, of all of them and of each kind
   whole : Whole (entries values)
   whole = entries-columns values noTally kept .0
 
@@ -169,6 +173,7 @@ module _ (values : Values) (none : firstBroken (valuesRules values) ≡ 0) where
       let behind = whole-both rows tasks (first .1) in
       (first .0, behind .0, behind .1)
 
+  -- each row has no more gaps than there are rows
   pub gaps-most : length (values .gaps) ≤ rowLimit * rowLimit
   unfolding entries entriesRules
   gaps-most =
@@ -200,7 +205,7 @@ module _ (values : Values) (none : firstBroken (valuesRules values) ≡ 0) where
       )
 
   -- and so never more than this
-  pub written-most : length (written values) ≤ 6 + labelLimit + 7 * modeLimit + (3 + headSize) * rowLimit + gapSize * (rowLimit * rowLimit) + 9 * taskLimit
+  pub written-most : length (written values) ≤ mostWritten
   written-most = omega (arith, size-written, label-most, modes-most, rows-most, gaps-most, tasks-most)
 
   -- rule 9: a set of as many bits as code gives it names only rows that a sheet can have

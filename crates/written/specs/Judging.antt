@@ -1,4 +1,4 @@
--- The reader's rules on values, before a byte is written. Nobody has to believe this page: that a reader of the written bytes says the same is proved (`judged-written`).
+-- The reader's rules on values, and how many bytes they take, before a byte is written. Nobody has to believe this page: that a reader of the written bytes says the same is proved (`judged-written`), and that so many are written (`size-written`).
 use Prim.Native.Nat.{ℕ, _+_, _*_}
 use mathlib.Core.List.{List, [], _∷_, _++_}
 use mathlib.Core.Bool.{Bool, false}
@@ -20,6 +20,10 @@ oneShorter gaps bound = anyFrom (λ k. ltb (getD gaps k 0) (bound .0)) 0 (length
 -- how many bytes a row has with these gaps
 abbrev pub rowSize : List ℕ → ℕ
 rowSize gaps = headSize + gapSize * length gaps
+
+-- how many bytes a sheet has, by the sizes of its label and columns: each field has three before its content, and the end field has no more
+abbrev pub sheetSize : ℕ → ℕ → ℕ → ℕ → ℕ → ℕ
+sheetSize label modes rows gaps tasks = 6 + label + 7 * modes + (3 + headSize) * rows + gapSize * gaps + 9 * tasks
 
 -- the rules of an entry; a field without content breaks rule 5 whatever else it breaks
 unfoldable pub entryRules : Tally → Entry → List Rule
