@@ -220,8 +220,8 @@ fn with_mode(sheet: Sheet, mode: Mode) -> Sheet
 {
     let mut next = sheet;
     let number = sheet.tally.modes;
-    let tally = count_mode(sheet.tally, mode.boundary);
     next.modes[number] = mode;
+    let tally = count_mode(sheet.tally, mode.boundary);
     next.tally = tally;
     next
 }
@@ -232,8 +232,8 @@ fn with_row(sheet: Sheet, row: Row) -> Sheet
 {
     let mut next = sheet;
     let number = sheet.tally.rows;
-    let tally = count_row(sheet.tally, row.speed);
     next.rows[number] = row;
+    let tally = count_row(sheet.tally, row.speed);
     next.tally = tally;
     next
 }
@@ -244,8 +244,8 @@ fn with_task(sheet: Sheet, task: Task) -> Sheet
 {
     let mut next = sheet;
     let number = sheet.tally.tasks;
-    let tally = count_task(sheet.tally);
     next.tasks[number] = task;
+    let tally = count_task(sheet.tally);
     next.tally = tally;
     next
 }

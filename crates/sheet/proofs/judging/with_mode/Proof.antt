@@ -8,4 +8,4 @@ returns : tie.Need-returns
 returns c = rw (c .count-mode .ensures) refl
 
 pub with-mode-spec : {M : Type 1} → statement M
-with-mode-spec = tie.close (tie.spec (λ c κs. search needs) (λ c. search needs) (λ c. search needs) returns)
+with-mode-spec = tie.close (tie.spec (λ c. search needs) (λ c. search needs) (λ c κs. search needs) returns)
