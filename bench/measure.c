@@ -34,7 +34,7 @@ static size_t cell_count;
 static int ratios_only;
 
 /* The values of the sheet, in columns, and how they are lent to each writer. */
-static uint16_t boundaries[LENGTHS], lengths[LENGTHS], speeds[ROWS], deadlines[ROWS], gaps[ROWS * ROWS];
+static uint16_t boundaries[LENGTHS], lengths[LENGTHS], fallbacks[LENGTHS], speeds[ROWS], deadlines[ROWS], gaps[ROWS * ROWS];
 static uint64_t follower_sets[ROWS];
 static uint16_t task_lengths[TASKS], task_periods[TASKS], task_deadlines[TASKS];
 static marnipode_values values;
@@ -60,21 +60,29 @@ static void put_head(unsigned tag, unsigned size)
     put_word(size);
 }
 
+/* Lengths fall with the modes. A band begins halfway from the boundary before. */
+static void put_mode(unsigned number, unsigned longest, int has_band)
+{
+    unsigned boundary = 1500 + 1000 * number;
+    put_head(2, has_band ? 6 : 4);
+    put_word(boundary);
+    put_word(longest / (number + 1));
+    if (has_band)
+        put_word(boundary - 500);
+}
+
 /*
  * A sheet whose rows have the same count of followers: each row is followed by itself and the next ones, the first after the
- * last. Deadlines and gaps fall as the speed rises, lengths fall with the modes.
+ * last. Deadlines and gaps fall as the speed rises. The first modes have bands, as many as are said.
  */
-static void make_sheet(const char *label, unsigned rows, unsigned followers, unsigned longest, unsigned tasks)
+static void make_sheet(const char *label, unsigned bands, unsigned rows, unsigned followers, unsigned longest, unsigned tasks)
 {
     sheet_size = 0;
     put_head(1, (unsigned)strlen(label));
     for (const char *text = label; *text != 0; text++)
         put_byte((unsigned char)*text);
-    for (unsigned i = 0; i < LENGTHS; i++) {
-        put_head(2, 4);
-        put_word(1500 + 1000 * i);
-        put_word(longest / (i + 1));
-    }
+    for (unsigned i = 0; i < LENGTHS; i++)
+        put_mode(i, longest, i < bands);
     for (unsigned k = 0; k < rows; k++) {
         uint32_t set = 0;
         for (unsigned i = 0; i < followers; i++)
@@ -149,7 +157,7 @@ static double time_of(int64_t (*ask)(question, uint64_t), question asked, uint64
 
 static void measure(question asked, unsigned rows, unsigned followers, uint64_t t)
 {
-    make_sheet("measure", rows, followers, longest_job[asked], 1);
+    make_sheet("measure", 0, rows, followers, longest_job[asked], 1);
     double best_ours = 1e9, best_plain = 1e9;
     size_t lines = asked == SHORTEST ? t : t + 1;
     double began = seconds();
@@ -196,6 +204,7 @@ static void take_values(void)
         marnipode_mode_answer mode = marnipode_mode(sheet, sheet_size, i);
         boundaries[i] = mode.boundary;
         lengths[i] = mode.length;
+        fallbacks[i] = mode.fallback;
     }
     for (size_t i = 0; i < judged.rows; i++)
         gap_count = take_row(i, judged.rows, gap_count);
@@ -205,10 +214,10 @@ static void take_values(void)
         task_periods[i] = task.period;
         task_deadlines[i] = task.deadline;
     }
-    values = (marnipode_values){sheet + label.start, label.size, boundaries, lengths, judged.modes, speeds, deadlines,
+    values = (marnipode_values){sheet + label.start, label.size, boundaries, lengths, fallbacks, judged.modes, speeds, deadlines,
                                 follower_sets, judged.rows, gaps, gap_count, task_lengths, task_periods, task_deadlines,
                                 judged.tasks};
-    same_values = (plain_values){sheet + label.start, label.size, boundaries, lengths, judged.modes, speeds, deadlines,
+    same_values = (plain_values){sheet + label.start, label.size, boundaries, lengths, fallbacks, judged.modes, speeds, deadlines,
                                  follower_sets, judged.rows, gaps, gap_count, task_lengths, task_periods, task_deadlines,
                                  judged.tasks};
 }
@@ -239,9 +248,9 @@ static double time_of_writing(size_t (*write_one)(void), uint8_t *output, int ru
     return (seconds() - began) / WRITES;
 }
 
-static void measure_writing(const char *which, const char *label, unsigned followers, unsigned tasks)
+static void measure_writing(const char *which, const char *label, unsigned bands, unsigned followers, unsigned tasks)
 {
-    make_sheet(label, ROWS, followers, longest_job[MARGIN], tasks);
+    make_sheet(label, bands, ROWS, followers, longest_job[MARGIN], tasks);
     take_values();
     double best_ours = 1e9, best_plain = 1e9;
     double began = seconds();
@@ -305,8 +314,8 @@ int main(int argc, char **argv)
     for (uint64_t lines = 4096; lines <= MARNIPODE_LONGEST_TIME + 1; lines *= 2)
         measure(MARGIN, ROWS, 3, lines - 1);
     head_of_writing("Sheets written from values, which are judged first: the largest there is, and a usual one");
-    measure_writing("largest", "A label of 32 bytes, the longest", ROWS, TASKS);
-    measure_writing("usual", "measure", 3, 2);
+    measure_writing("largest", "A label of 32 bytes, the longest", LENGTHS - 1, ROWS, TASKS);
+    measure_writing("usual", "measure", 0, 3, 2);
     free(plain);
     free(ours);
     return 0;

@@ -10,8 +10,11 @@ enum { ROWS = 32, TASKS = 16, MODES = 8, LONGEST_TIME = 65535, LONGEST_LABEL = 3
 /* The tags of the fields. */
 enum { LABEL = 1, MODE = 2, ROW = 3, TASK = 4, END = 5 };
 
-/* Bytes of a field ahead of its content, of a row's content ahead of its gaps, and of the content of a mode and of a task. */
-enum { HEAD_SIZE = 3, ROW_SIZE = 8, GAP_SIZE = 2, MODE_SIZE = 4, TASK_SIZE = 6 };
+/*
+ * Bytes of a field ahead of its content, of a row's content ahead of its gaps, of a mode's content ahead of a fall-back, and of the
+ * content of a task.
+ */
+enum { HEAD_SIZE = 3, ROW_SIZE = 8, GAP_SIZE = 2, MODE_SIZE = 4, FALLBACK_SIZE = 2, TASK_SIZE = 6 };
 
 /* Why values are refused. */
 enum {
@@ -28,7 +31,7 @@ enum {
 static const cell_number NO_TIME = 4294967295u;
 
 struct mode {
-    cell_number boundary, length;
+    cell_number boundary, length, fallback;
 };
 
 struct row {
@@ -53,13 +56,13 @@ static cell_number word(const byte_number *bytes, place_number at)
     return (cell_number)bytes[at] * 256 + bytes[at + 1];
 }
 
-/* The slowest mode that reaches the speed has its length. */
+/* The slowest mode that reaches the speed has its length; above the fall-back it is the next mode's where that is longer. */
 static cell_number job_length(const struct sheet *sheet, cell_number speed)
 {
-    place_number i = 0;
-    while (sheet->mode[i].boundary < speed)
-        i++;
-    return sheet->mode[i].length;
+    const struct mode *mode = sheet->mode;
+    while (mode->boundary < speed)
+        mode++;
+    return mode->fallback < speed && mode->length < mode[1].length ? mode[1].length : mode->length;
 }
 
 static void read_sheet(const byte_number *bytes, struct sheet *sheet)
@@ -71,6 +74,7 @@ static void read_sheet(const byte_number *bytes, struct sheet *sheet)
             struct mode *mode = &sheet->mode[sheet->modes++];
             mode->boundary = word(bytes, start);
             mode->length = word(bytes, start + 2);
+            mode->fallback = word(bytes, at + 1) == MODE_SIZE ? mode->boundary : word(bytes, start + 4);
         } else if (bytes[at] == 3) {
             struct row *row = &sheet->row[sheet->rows++];
             row->speed = word(bytes, start);
@@ -223,6 +227,17 @@ static int is_speed(column_number speed)
     return 0 < speed && speed <= HIGHEST_SPEED;
 }
 
+/* A mode without a band has its boundary as fall-back, and a shorter field, where nothing is said about it. */
+static int has_band(const plain_values *values, place_number i)
+{
+    return values->fallbacks[i] != values->boundaries[i];
+}
+
+static int is_fallback(column_number fallback, column_number last, column_number boundary)
+{
+    return 0 < fallback && last <= fallback && fallback <= boundary;
+}
+
 static byte_number judge_modes(const plain_values *values)
 {
     column_number last = 0;
@@ -231,6 +246,8 @@ static byte_number judge_modes(const plain_values *values)
         if (i == MODES)
             return TOO_MANY;
         if (!is_speed(boundary) || values->lengths[i] == 0)
+            return OUT_OF_RANGE;
+        if (has_band(values, i) && !is_fallback(values->fallbacks[i], last, boundary))
             return OUT_OF_RANGE;
         if (boundary <= last)
             return NOT_RISING;
@@ -249,13 +266,14 @@ static column_number shortest_gap(const column_number *gaps, place_number count)
     return shortest;
 }
 
+/* Which mode is the last is known only at a row. */
 static byte_number judge_row(const plain_values *values, place_number k, const column_number *gaps, place_number count)
 {
     if (k == ROWS)
         return TOO_MANY;
     column_number speed = values->speeds[k], deadline = values->deadlines[k];
     column_number shortest = shortest_gap(gaps, count);
-    if (!is_speed(speed) || deadline == 0 || shortest == 0)
+    if (has_band(values, values->modes - 1) || !is_speed(speed) || deadline == 0 || shortest == 0)
         return OUT_OF_RANGE;
     if (values->boundaries[values->modes - 1] < speed || (0 < k && speed <= values->speeds[k - 1]))
         return NOT_RISING;
@@ -319,10 +337,18 @@ static byte_number judge_values(const plain_values *values)
     return number;
 }
 
+static place_number size_of_mode(const plain_values *values, place_number i)
+{
+    return has_band(values, i) ? MODE_SIZE + FALLBACK_SIZE : MODE_SIZE;
+}
+
 static place_number size_of_sheet(const plain_values *values)
 {
-    return HEAD_SIZE + values->label_size + (HEAD_SIZE + MODE_SIZE) * values->modes + (HEAD_SIZE + ROW_SIZE) * values->rows +
-           GAP_SIZE * values->gap_count + (HEAD_SIZE + TASK_SIZE) * values->tasks + HEAD_SIZE;
+    place_number size = HEAD_SIZE + values->label_size;
+    for (place_number i = 0; i < values->modes; i++)
+        size += HEAD_SIZE + size_of_mode(values, i);
+    return size + (HEAD_SIZE + ROW_SIZE) * values->rows + GAP_SIZE * values->gap_count +
+           (HEAD_SIZE + TASK_SIZE) * values->tasks + HEAD_SIZE;
 }
 
 /* This and the next ones return the place behind what they put. */
@@ -350,9 +376,11 @@ static byte_number *put_label(byte_number *at, const plain_values *values)
 static byte_number *put_modes(byte_number *at, const plain_values *values)
 {
     for (place_number i = 0; i < values->modes; i++) {
-        at = put_head(at, MODE, MODE_SIZE);
+        at = put_head(at, MODE, size_of_mode(values, i));
         at = put_word(at, values->boundaries[i]);
         at = put_word(at, values->lengths[i]);
+        if (has_band(values, i))
+            at = put_word(at, values->fallbacks[i]);
     }
     return at;
 }

@@ -15,6 +15,7 @@ typedef struct {
     place_number label_size;
     const column_number *boundaries;
     const column_number *lengths;
+    const column_number *fallbacks;
     place_number modes;
     const column_number *speeds;
     const column_number *deadlines;

@@ -31,8 +31,8 @@ extern "C" {
 #endif
 
 /* The version of this header and its archive; as a number, 1.2.3 is 10203. CHANGELOG.md says what a new one changes. */
-#define MARNIPODE_VERSION "1.3.0"
-#define MARNIPODE_VERSION_NUMBER 10300
+#define MARNIPODE_VERSION "2.0.0"
+#define MARNIPODE_VERSION_NUMBER 20000
 
 /* The most modes, rows and fixed tasks of a sheet, and the most bytes of its label. */
 #define MARNIPODE_MOST_MODES 8
@@ -41,7 +41,7 @@ extern "C" {
 #define MARNIPODE_LONGEST_LABEL 32
 
 /* The most bytes that a written sheet has: an output of so many cannot give refusal 15. */
-#define MARNIPODE_MOST_WRITTEN 2638
+#define MARNIPODE_MOST_WRITTEN 2652
 
 /* The highest speed of a sheet, in rpm; its longest time, which is also the longest interval or horizon that can be asked about. */
 #define MARNIPODE_HIGHEST_SPEED 20000
@@ -52,7 +52,7 @@ extern "C" {
 #define MARNIPODE_NO_TIME UINT32_C(4294967295)
 
 /* No call takes more stack than this, in bytes, with all that it calls but `memcpy`, which the program brings. */
-#define MARNIPODE_MOST_STACK 8192
+#define MARNIPODE_MOST_STACK 8448
 
 /* And writing a sheet takes no more than this. */
 #define MARNIPODE_MOST_STACK_TO_WRITE 4096
@@ -177,13 +177,21 @@ typedef struct {
     size_t size;
 } marnipode_write_answer;
 
-/* A mode: the highest speed that is still in it, and its job length. */
+/*
+ * A mode: the highest speed that is still in it; its job length; and its fall-back, the speed down to which an engine that slows down
+ * hangs on to the next faster mode. The speeds above the fall-back and up to the boundary are the mode's band: there a job takes as
+ * long as in this mode or in the next one, whichever is longer. A fall-back equal to the boundary means that there is no band.
+ */
 typedef struct {
     uint16_t boundary;
     uint16_t length;
+    uint16_t fallback;
 } marnipode_mode_answer;
 
-/* A row: its speed, its deadline, its follower set (bit j says that row j may come next), and its job length, which its mode gives. */
+/*
+ * A row: its speed, its deadline, its follower set (bit j says that row j may come next), and its job length, which its mode gives or,
+ * in a band, the next mode where that has the longer one.
+ */
 typedef struct {
     uint16_t speed;
     uint16_t deadline;
@@ -202,12 +210,17 @@ typedef struct {
  * The values of a sheet, in columns: a mode, a row or a task is what stands at its number in each column of its kind. The gaps stand
  * one behind the other, those of row 0 first, and of each row one for each row of its follower set, lowest first. Follower sets have
  * room for 64 rows; bits from MARNIPODE_MOST_ROWS on name rows that do not exist, and are refused by 9.
+ *
+ * Every mode has a fall-back, so that column is lent like the others: null stands for no modes, not for no bands. A mode without a
+ * band has its boundary there once more, and where no mode has a band the same pointer can be given for both columns. The last mode
+ * has no band, since there is no faster one to hang on to.
  */
 typedef struct {
     const uint8_t *label;
     size_t label_size;
     const uint16_t *boundaries;
     const uint16_t *lengths;
+    const uint16_t *fallbacks;
     size_t modes;
     const uint16_t *speeds;
     const uint16_t *deadlines;
@@ -242,12 +255,13 @@ marnipode_task_answer marnipode_task(const uint8_t *sheet, size_t size, size_t n
 
 /*
  * Writes the sheet of these values at the front of the output: label, modes, rows, fixed tasks, end. The bytes behind it stay as they
- * were. Reading it gives the same values again, and an accepted sheet without skipped fields, written from its values, is the same
- * byte for byte; skipped fields are not written.
+ * were. Reading it gives the same values again. Skipped fields are not written, nor is a fall-back that is its mode's boundary, since
+ * the shorter field says the same; an accepted sheet that has neither, written from its values, is the same byte for byte.
  *
  * Refused is what the judge would refuse, by the same number, but at place 0, since nothing is written: 5 for an empty or too long
- * label, and for more or fewer gaps than the follower sets have rows; 3 for no modes or no rows; 6 to 10 as of a sheet. Then 15
- * where the output is shorter than the sheet.
+ * label, and for more or fewer gaps than the follower sets have rows; 3 for no modes or no rows; 6 to 10 as of a sheet, also 7 for a
+ * fall-back that is 0, above its boundary, below the boundary before it, or, of the last mode, not its boundary. Then 15 where the
+ * output is shorter than the sheet.
  */
 static inline marnipode_write_answer marnipode_write(const marnipode_values *values, uint8_t *output, size_t output_size);
 
@@ -257,20 +271,21 @@ static inline marnipode_write_answer marnipode_write(const marnipode_values *val
  */
 marnipode_write_answer marnipode_write_columns(const uint8_t *label, size_t label_size, const uint16_t *boundaries,
                                                size_t boundary_count, const uint16_t *lengths, size_t length_count,
-                                               const uint16_t *speeds, size_t speed_count, const uint16_t *deadlines,
-                                               size_t deadline_count, const uint64_t *followers, size_t follower_count,
-                                               const uint16_t *gaps, size_t gap_count, const uint16_t *task_lengths,
-                                               size_t task_length_count, const uint16_t *task_periods, size_t task_period_count,
+                                               const uint16_t *fallbacks, size_t fallback_count, const uint16_t *speeds,
+                                               size_t speed_count, const uint16_t *deadlines, size_t deadline_count,
+                                               const uint64_t *followers, size_t follower_count, const uint16_t *gaps,
+                                               size_t gap_count, const uint16_t *task_lengths, size_t task_length_count,
+                                               const uint16_t *task_periods, size_t task_period_count,
                                                const uint16_t *task_deadlines, size_t task_deadline_count, uint8_t *output,
                                                size_t output_size);
 
 static inline marnipode_write_answer marnipode_write(const marnipode_values *values, uint8_t *output, size_t output_size)
 {
     return marnipode_write_columns(values->label, values->label_size, values->boundaries, values->modes, values->lengths,
-                                   values->modes, values->speeds, values->rows, values->deadlines, values->rows,
-                                   values->followers, values->rows, values->gaps, values->gap_count, values->task_lengths,
-                                   values->tasks, values->task_periods, values->tasks, values->task_deadlines, values->tasks,
-                                   output, output_size);
+                                   values->modes, values->fallbacks, values->modes, values->speeds, values->rows,
+                                   values->deadlines, values->rows, values->followers, values->rows, values->gaps,
+                                   values->gap_count, values->task_lengths, values->tasks, values->task_periods, values->tasks,
+                                   values->task_deadlines, values->tasks, output, output_size);
 }
 
 /*

@@ -108,11 +108,43 @@ static void make_skipped_field(bad_file *file, unsigned number)
     file->must = (refusal){1, file->size};
 }
 
+/* Every length of a mode behind a label, up to the longest that fits: where it is 4 or 6 the file stops behind it. */
+static void make_mode(bad_file *file, unsigned number)
+{
+    static const uint8_t start[] = {LABEL_TAG, 0, 1, 'A', MODE_TAG, 0, 0, 3, 232, 0, 5, 3, 232};
+    memcpy(file->bytes, start, sizeof start);
+    file->bytes[6] = (uint8_t)number;
+    file->size = 7 + number;
+    file->must = number == 4 || number == 6 ? (refusal){1, file->size} : (refusal){5, 4};
+}
+
+/* A bad fall-back of a mode from 1,001 to 2,000 rpm, which is the last: at the mode where it can be no fall-back, else at the row. */
+static refusal refusal_of_fallback(unsigned fallback)
+{
+    if (fallback < 1000 || 2000 < fallback)
+        return (refusal){7, 11};
+    return fallback < 2000 ? (refusal){7, 20} : (refusal){1, 31};
+}
+
+/* Every fall-back of that mode. With the right one the file stops behind the row. */
+static void make_fallback(bad_file *file, unsigned number)
+{
+    static const uint8_t whole[] = {LABEL_TAG, 0, 1, 'A', MODE_TAG, 0, 4, 3, 232, 0, 5, MODE_TAG, 0, 6, 7, 208,
+                                    0,         3, 0, 0,   ROW_TAG,  0, 8, 3, 232, 0, 5, 0,        0, 0, 0};
+    memcpy(file->bytes, whole, sizeof whole);
+    file->bytes[18] = (uint8_t)(number / 256);
+    file->bytes[19] = (uint8_t)(number % 256);
+    file->size = sizeof whole;
+    file->must = refusal_of_fallback(number);
+}
+
 int main(void)
 {
     score all = compare_files("every file of two bytes", 65536, make_two_bytes);
     all = sum_of(all, compare_files("every file of three bytes whose middle byte is 0", 65536, make_header));
     all = sum_of(all, compare_files("files of one skipped field, each tag and each length up to 255", 32768, make_skipped_field));
+    all = sum_of(all, compare_files("files of a label and a mode of each length up to 251", 252, make_mode));
+    all = sum_of(all, compare_files("files that stop before the end field, each fall-back of the last mode", 65536, make_fallback));
     print_score("bad files in all", 16, all);
     return all.wrong == 0 ? EXIT_SUCCESS : EXIT_FAILURE;
 }

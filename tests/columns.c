@@ -6,7 +6,7 @@
 void clear_columns(columns *given)
 {
     given->label_size = 0;
-    given->boundaries.count = given->lengths.count = 0;
+    given->boundaries.count = given->lengths.count = given->fallbacks.count = 0;
     given->speeds.count = given->deadlines.count = given->follower_count = given->gaps.count = 0;
     given->task_lengths.count = given->task_periods.count = given->task_deadlines.count = 0;
 }
@@ -59,6 +59,7 @@ void read_columns(columns *told, const uint8_t *sheet, size_t size)
         marnipode_mode_answer mode = marnipode_mode(sheet, size, i);
         add_value(&told->boundaries, mode.boundary);
         add_value(&told->lengths, mode.length);
+        add_value(&told->fallbacks, mode.fallback);
     }
     for (size_t i = 0; i < judged.rows; i++)
         read_row(told, sheet, size, i, judged.rows);
@@ -79,8 +80,8 @@ bool are_same(const columns *first, const columns *second)
 {
     return first->label_size == second->label_size && memcmp(first->label, second->label, first->label_size) == 0 &&
            is_same_column(&first->boundaries, &second->boundaries) && is_same_column(&first->lengths, &second->lengths) &&
-           is_same_column(&first->speeds, &second->speeds) && is_same_column(&first->deadlines, &second->deadlines) &&
-           first->follower_count == second->follower_count &&
+           is_same_column(&first->fallbacks, &second->fallbacks) && is_same_column(&first->speeds, &second->speeds) &&
+           is_same_column(&first->deadlines, &second->deadlines) && first->follower_count == second->follower_count &&
            memcmp(first->followers, second->followers, first->follower_count * sizeof first->followers[0]) == 0 &&
            is_same_column(&first->gaps, &second->gaps) && is_same_column(&first->task_lengths, &second->task_lengths) &&
            is_same_column(&first->task_periods, &second->task_periods) &&
@@ -89,19 +90,19 @@ bool are_same(const columns *first, const columns *second)
 
 bool are_even(const columns *given)
 {
-    return given->boundaries.count == given->lengths.count && given->speeds.count == given->deadlines.count &&
-           given->speeds.count == given->follower_count && given->task_lengths.count == given->task_periods.count &&
-           given->task_lengths.count == given->task_deadlines.count;
+    return given->boundaries.count == given->lengths.count && given->boundaries.count == given->fallbacks.count &&
+           given->speeds.count == given->deadlines.count && given->speeds.count == given->follower_count &&
+           given->task_lengths.count == given->task_periods.count && given->task_lengths.count == given->task_deadlines.count;
 }
 
 marnipode_write_answer write_columns(const columns *given, uint8_t *output, size_t size)
 {
     return marnipode_write_columns(
         given->label, given->label_size, given->boundaries.values, given->boundaries.count, given->lengths.values,
-        given->lengths.count, given->speeds.values, given->speeds.count, given->deadlines.values, given->deadlines.count,
-        given->followers, given->follower_count, given->gaps.values, given->gaps.count, given->task_lengths.values,
-        given->task_lengths.count, given->task_periods.values, given->task_periods.count, given->task_deadlines.values,
-        given->task_deadlines.count, output, size);
+        given->lengths.count, given->fallbacks.values, given->fallbacks.count, given->speeds.values, given->speeds.count,
+        given->deadlines.values, given->deadlines.count, given->followers, given->follower_count, given->gaps.values,
+        given->gaps.count, given->task_lengths.values, given->task_lengths.count, given->task_periods.values,
+        given->task_periods.count, given->task_deadlines.values, given->task_deadlines.count, output, size);
 }
 
 marnipode_write_answer write_struct(const columns *given, uint8_t *output, size_t size)
@@ -111,6 +112,7 @@ marnipode_write_answer write_struct(const columns *given, uint8_t *output, size_
         .label_size = given->label_size,
         .boundaries = given->boundaries.values,
         .lengths = given->lengths.values,
+        .fallbacks = given->fallbacks.values,
         .modes = given->boundaries.count,
         .speeds = given->speeds.values,
         .deadlines = given->deadlines.values,

@@ -23,6 +23,7 @@ typedef struct {
     size_t label_size;
     column boundaries;
     column lengths;
+    column fallbacks;
     column speeds;
     column deadlines;
     uint64_t followers[MOST_IN_COLUMN];

@@ -156,13 +156,17 @@ static void compare_explanations(uint32_t *cells)
     compare("the excess", why.engine == 1 && why.excess == MARNIPODE_MOST_TASKS);
 }
 
-/* The largest sheet: every row is followed by every row, and all times are 1. */
-static void compare_writing(void)
+/* What is written of the largest sheet, and its follower sets, which are changed to be refused. */
+static uint8_t output[MARNIPODE_MOST_WRITTEN];
+static uint64_t sets[MARNIPODE_MOST_ROWS];
+
+/* The largest sheet: every row is followed by every row, all times are 1, and every mode but the last has a band. */
+static marnipode_values largest_values(void)
 {
-    static uint16_t ones[MARNIPODE_MOST_ROWS * MARNIPODE_MOST_ROWS], speeds[MARNIPODE_MOST_ROWS];
-    static uint64_t sets[MARNIPODE_MOST_ROWS];
-    static uint8_t output[MARNIPODE_MOST_WRITTEN], label[MARNIPODE_LONGEST_LABEL];
+    static uint16_t ones[MARNIPODE_MOST_ROWS * MARNIPODE_MOST_ROWS], speeds[MARNIPODE_MOST_ROWS], fallbacks[MARNIPODE_MOST_MODES];
+    static uint8_t label[MARNIPODE_LONGEST_LABEL];
     const size_t gaps = sizeof ones / sizeof ones[0];
+    const uint16_t *boundaries = speeds + MARNIPODE_MOST_ROWS - MARNIPODE_MOST_MODES;
     memset(label, 'L', sizeof label);
     for (size_t i = 0; i < gaps; i++)
         ones[i] = 1;
@@ -170,9 +174,28 @@ static void compare_writing(void)
         speeds[i] = (uint16_t)(i + 1);
         sets[i] = (UINT64_C(1) << MARNIPODE_MOST_ROWS) - 1;
     }
-    marnipode_values values = {label, sizeof label, speeds + MARNIPODE_MOST_ROWS - MARNIPODE_MOST_MODES, ones,
-                               MARNIPODE_MOST_MODES, speeds, ones, sets, MARNIPODE_MOST_ROWS, ones, gaps, ones, ones, ones,
-                               MARNIPODE_MOST_TASKS};
+    for (size_t i = 0; i < MARNIPODE_MOST_MODES; i++)
+        fallbacks[i] = (uint16_t)(i + 1 < MARNIPODE_MOST_MODES ? boundaries[i] - 1 : boundaries[i]);
+    return (marnipode_values){label, sizeof label, boundaries, ones, fallbacks, MARNIPODE_MOST_MODES, speeds, ones, sets,
+                              MARNIPODE_MOST_ROWS, ones, gaps, ones, ones, ones, MARNIPODE_MOST_TASKS};
+}
+
+/* A mode whose fall-back is its boundary is 2 bytes shorter. */
+static void compare_fallbacks(void)
+{
+    marnipode_values values = largest_values();
+    marnipode_write(&values, output, sizeof output);
+    compare("a band, read", marnipode_mode(output, sizeof output, 0).fallback == values.fallbacks[0] &&
+                                values.fallbacks[0] < values.boundaries[0]);
+    values.fallbacks = values.boundaries;
+    marnipode_write_answer written = marnipode_write(&values, output, sizeof output);
+    compare("one column for both", written.number == 0 && written.size == MARNIPODE_MOST_WRITTEN - 2 * (MARNIPODE_MOST_MODES - 1));
+    compare("no band, read", marnipode_mode(output, written.size, 0).fallback == values.boundaries[0]);
+}
+
+static void compare_writing(void)
+{
+    marnipode_values values = largest_values();
     marnipode_write_answer written = marnipode_write(&values, output, sizeof output);
     compare("the largest written sheet", written.number == 0 && written.place == 0 && written.size == MARNIPODE_MOST_WRITTEN);
     compare("the largest sheet, read", marnipode_judge(output, written.size).rows == MARNIPODE_MOST_ROWS);
@@ -193,7 +216,9 @@ static void compare_values(void)
     write_outline(&(outline){1, 1, 1, 1, 1});
     compare("the values of a sheet", marnipode_mode(sheet, size, 0).boundary == 1 && marnipode_row(sheet, size, 0).followers == 1 &&
                                          marnipode_gap(sheet, size, 0, 0) == 1 && marnipode_task(sheet, size, 0).period == 1);
-    compare("a mode past the last", marnipode_mode(sheet, size, 1).boundary == 0 && marnipode_mode(sheet, size, SIZE_MAX).length == 0);
+    compare("a mode without a band", marnipode_mode(sheet, size, 0).fallback == 1);
+    compare("a mode past the last", marnipode_mode(sheet, size, 1).boundary == 0 && marnipode_mode(sheet, size, SIZE_MAX).length == 0 &&
+                                        marnipode_mode(sheet, size, 1).fallback == 0);
     compare("a row past the last", marnipode_row(sheet, size, 1).speed == 0 && marnipode_row(sheet, size, SIZE_MAX).length == 0);
     compare("a gap past the last", marnipode_gap(sheet, size, 0, 1) == 0 && marnipode_gap(sheet, size, SIZE_MAX, SIZE_MAX) == 0);
     compare("a task past the last", marnipode_task(sheet, size, 1).length == 0 && marnipode_task(sheet, size, SIZE_MAX).period == 0);
@@ -227,6 +252,7 @@ int main(void)
     compare_questions(cells);
     compare_explanations(cells);
     compare_writing();
+    compare_fallbacks();
     compare_values();
     compare_no_sheet();
     print_score("header in all", 13, counted);

@@ -15,12 +15,16 @@ static uint8_t *put_header(uint8_t *at, uint8_t tag, unsigned size)
     return put_word(at + 1, size);
 }
 
+/* A fall-back stands in the field only where it is not the boundary, as the writer has it. */
 static uint8_t *put_modes(uint8_t *at, const plan *made)
 {
     for (unsigned i = 0; i < MOST_ROWS; i++) {
-        at = put_header(at, MODE_TAG, 4);
-        at = put_word(at, 1000 * (i + 1));
+        bool has_band = made->fallbacks[i] != boundary_of(i);
+        at = put_header(at, MODE_TAG, has_band ? 6 : 4);
+        at = put_word(at, boundary_of(i));
         at = put_word(at, made->mode_lengths[i]);
+        if (has_band)
+            at = put_word(at, made->fallbacks[i]);
     }
     return at;
 }

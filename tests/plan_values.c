@@ -21,8 +21,9 @@ void fill_columns(const plan *made, columns *given)
     given->label[0] = 'A';
     given->label_size = 1;
     for (unsigned i = 0; i < MOST_ROWS; i++) {
-        add_value(&given->boundaries, 1000 * (i + 1));
+        add_value(&given->boundaries, boundary_of(i));
         add_value(&given->lengths, made->mode_lengths[i]);
+        add_value(&given->fallbacks, made->fallbacks[i]);
     }
     for (unsigned i = 0; i < made->rows; i++)
         fill_row(made, i, given);

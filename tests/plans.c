@@ -12,12 +12,24 @@ const fixed_task fixed_tasks[MOST_TASKS] = {{1, 5, 4}, {2, 3, 5}, {2, 7, 2}, {1,
 
 /* A boundary speed belongs to the slower mode. */
 static const family families[] = {
-    {"at-boundaries", "at boundary speeds, each in a mode of its own", {1000, 2000, 3000}, {0, 1, 2}},
-    {"above-boundaries", "one rpm above the boundary of the mode before their own", {1, 1001, 2001}, {0, 1, 2}},
-    {"shared-mode", "below a boundary, at it, in the same mode, and one rpm above it", {999, 1000, 1001}, {0, 0, 1}},
+    {"at-boundaries", "at boundary speeds, each in a mode of its own", {1000, 2000, 3000}, {0, 1, 2}, false},
+    {"above-boundaries", "one rpm above the boundary of the mode before their own", {1, 1001, 2001}, {0, 1, 2}, false},
+    {"shared-mode", "below a boundary, at it, in the same mode, and one rpm above it", {999, 1000, 1001}, {0, 0, 1}, true},
 };
 
 enum { FAMILIES = sizeof families / sizeof families[0] };
+
+/*
+ * The fall-backs of a family with bands take turns: no band, and bands of two modes that begin one rpm below the rows at 999, 1,000
+ * and 1,001 rpm, at them and above them, at the lowest speed, and at the boundary before. Their number has no divisor in common with
+ * that of any other choice, so that each turn meets each job length, deadline and gap.
+ */
+static const unsigned turns[][MOST_ROWS] = {
+    {1000, 2000, 3000}, {999, 2000, 3000},  {998, 1001, 3000}, {1, 1000, 3000},
+    {999, 1000, 3000},  {1000, 1000, 3000}, {998, 1002, 3000},
+};
+
+enum { TURNS = sizeof turns / sizeof turns[0] };
 
 const family *find_family(const char *name)
 {
@@ -98,9 +110,17 @@ static void take_all(plan *made, unsigned number)
     }
 }
 
+/* The first turn is that of a family without bands. */
+static void take_fallbacks(plan *made, const family *chosen, unsigned number)
+{
+    unsigned turn = chosen->has_bands ? number % TURNS : 0;
+    memcpy(made->fallbacks, turns[turn], sizeof made->fallbacks);
+}
+
 plan make_plan(const family *chosen, unsigned rows, unsigned number)
 {
     plan made = {.mode_lengths = {1, 1, 1}, .rows = rows};
+    take_fallbacks(&made, chosen, number);
     for (unsigned i = 0; i < rows; i++) {
         made.speeds[i] = chosen->speeds[i];
         made.modes[i] = chosen->modes[i];
@@ -109,15 +129,35 @@ plan make_plan(const family *chosen, unsigned rows, unsigned number)
     return made;
 }
 
+unsigned boundary_of(unsigned mode)
+{
+    return 1000 * (mode + 1);
+}
+
+/* Above the fall-back of its mode a row has the longer of two lengths. No row is in the last mode's band, since there is none. */
 unsigned length_of(const plan *made, unsigned row)
 {
-    return made->mode_lengths[made->modes[row]];
+    unsigned mode = made->modes[row];
+    unsigned length = made->mode_lengths[mode];
+    if (made->speeds[row] <= made->fallbacks[mode])
+        return length;
+    unsigned next = made->mode_lengths[mode + 1];
+    return length < next ? next : length;
+}
+
+static void print_fallbacks(const family *chosen)
+{
+    printf("fall-backs of the modes:");
+    for (unsigned i = 0; chosen->has_bands && i < TURNS; i++)
+        printf(" (%u, %u, %u)", turns[i][0], turns[i][1], turns[i][2]);
+    printf(chosen->has_bands ? ", in turn\n" : " their boundaries\n");
 }
 
 void print_bounds(const family *chosen)
 {
     printf("search %s: 1 to %d rows, %s\n", chosen->name, MOST_ROWS, chosen->rows);
     printf("every follower set, job lengths of a mode 1 to %d, deadlines 1 to %d\n", LENGTHS, DEADLINES);
+    print_fallbacks(chosen);
     printf("gaps of one and two rows: the deadline, one more or two more\n");
     printf("gaps of three rows: 1 out of a row with deadline 1; 4, 3 and 2 to rows 0, 1 and 2 out of one with deadline 2\n");
     printf("fixed tasks: none, or the first ones of");

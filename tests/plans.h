@@ -2,6 +2,7 @@
 #ifndef TESTS_PLANS_H
 #define TESTS_PLANS_H
 
+#include <stdbool.h>
 #include <stddef.h>
 #include <stdint.h>
 
@@ -9,15 +10,17 @@
 
 enum { MOST_ROWS = 3, MOST_TASKS = 4 };
 
-/* Room for a file: three rows and four fixed tasks take 115 bytes. */
+/* Room for a file: three rows, four fixed tasks and two bands take 119 bytes. */
 enum { MOST_PLAN_FILE = 128 };
 
 /*
- * Three modes, up to 1,000, 2,000 and 3,000 rpm, with the lengths of their jobs. Each row has a speed, and the mode that it is in by
- * that; a deadline; and a gap to each row, 0 where that row may not follow. Of the fixed tasks there are none or the first ones.
+ * Three modes, up to 1,000, 2,000 and 3,000 rpm, with the lengths of their jobs and their fall-backs. Each row has a speed, and the mode
+ * that it is in by that; a deadline; and a gap to each row, 0 where that row may not follow. Of the fixed tasks there are none or the
+ * first ones.
  */
 typedef struct {
     unsigned mode_lengths[MOST_ROWS];
+    unsigned fallbacks[MOST_ROWS];
     unsigned rows;
     unsigned speeds[MOST_ROWS];
     unsigned modes[MOST_ROWS];
@@ -35,12 +38,16 @@ typedef struct {
 
 extern const fixed_task fixed_tasks[MOST_TASKS];
 
-/* A family of plans by where its rows stand among the boundaries: their speeds, and the modes that they are in by those. */
+/*
+ * A family of plans by where its rows stand among the boundaries: their speeds, and the modes that they are in by those; and whether
+ * its modes have bands.
+ */
 typedef struct {
     const char *name;
     const char *rows;
     unsigned speeds[MOST_ROWS];
     unsigned modes[MOST_ROWS];
+    bool has_bands;
 } family;
 
 /* The family of a name, or null. */
@@ -49,6 +56,9 @@ const family *find_family(const char *name);
 /* How many plans of a family have so many rows, and the one of a number below that. */
 unsigned plans_of(unsigned rows);
 plan make_plan(const family *chosen, unsigned rows, unsigned number);
+
+/* The highest speed of a mode. */
+unsigned boundary_of(unsigned mode);
 
 /* The job length of a row. */
 unsigned length_of(const plan *made, unsigned row);

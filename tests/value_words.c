@@ -21,18 +21,29 @@ static void hold_numbers(trial *now, const uint64_t *got, const uint64_t *must, 
     }
 }
 
-/* `mode NUMBER is BOUNDARY LENGTH` */
+/* `BOUNDARY LENGTH`, or `BOUNDARY LENGTH FALLBACK`: without a fall-back it is the boundary, so that `0 0` is no mode. */
+static bool mode_said(const line *said, size_t from, uint64_t *must)
+{
+    if (said->count == from + 3)
+        return numbers_said(said, from, must, 3);
+    if (!numbers_said(said, from, must, 2))
+        return false;
+    must[2] = must[0];
+    return true;
+}
+
+/* `mode NUMBER is BOUNDARY LENGTH`, `mode NUMBER is BOUNDARY LENGTH FALLBACK` */
 void read_mode(trial *now, const line *said)
 {
-    uint64_t number, must[2];
-    if (!number_at(said, 1, &number) || !says(said, 2, "is") || !numbers_said(said, 3, must, 2)) {
+    uint64_t number, must[3];
+    if (!number_at(said, 1, &number) || !says(said, 2, "is") || !mode_said(said, 3, must)) {
         misread(now);
         return;
     }
     compare(now);
     lend_sheet(now);
     marnipode_mode_answer got = marnipode_mode(now->sheet.start, now->sheet.size, number);
-    hold_numbers(now, (uint64_t[]){got.boundary, got.length}, must, 2);
+    hold_numbers(now, (uint64_t[]){got.boundary, got.length, got.fallback}, must, 3);
 }
 
 /* `row NUMBER is RPM DEADLINE SET LENGTH`, the set as a decimal number */
@@ -78,14 +89,15 @@ void read_task(trial *now, const line *said)
 
 void hold_no_values(trial *now)
 {
-    static const uint64_t none[10];
+    static const uint64_t none[11];
     lend_sheet(now);
     const uint8_t *sheet = now->sheet.start;
     size_t size = now->sheet.size;
     marnipode_mode_answer mode = marnipode_mode(sheet, size, 0);
     marnipode_row_answer row = marnipode_row(sheet, size, 0);
     marnipode_task_answer task = marnipode_task(sheet, size, 0);
-    const uint64_t got[] = {mode.boundary, mode.length, row.speed,   row.deadline,  row.followers,
-                            row.length,    task.length, task.period, task.deadline, marnipode_gap(sheet, size, 0, 0)};
+    const uint64_t got[] = {mode.boundary, mode.length, mode.fallback, row.speed,   row.deadline,
+                            row.followers, row.length,  task.length,   task.period, task.deadline,
+                            marnipode_gap(sheet, size, 0, 0)};
     hold_numbers(now, got, none, sizeof got / sizeof got[0]);
 }

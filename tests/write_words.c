@@ -51,12 +51,21 @@ static bool add_row(const line *said)
     return true;
 }
 
+/* `BOUNDARY LENGTH`, or `BOUNDARY LENGTH FALLBACK`: without a fall-back it is the boundary. */
+static bool add_mode(const line *said)
+{
+    size_t fallback = said->count == 5 ? 4 : 2;
+    return (said->count == 4 || said->count == 5) &&
+           add_each(said, 2, (column *const[]){&given.boundaries, &given.lengths}, 2) &&
+           add_each(said, fallback, (column *const[]){&given.fallbacks}, 1);
+}
+
 static bool add_said(const line *said)
 {
     if (says(said, 1, "label"))
         return add_bytes(said, 2, given.label, MOST_LABEL, &given.label_size);
     if (says(said, 1, "mode"))
-        return said->count == 4 && add_each(said, 2, (column *const[]){&given.boundaries, &given.lengths}, 2);
+        return add_mode(said);
     if (says(said, 1, "row"))
         return add_row(said);
     return says(said, 1, "task") && said->count == 5 &&
@@ -76,11 +85,11 @@ void read_without(trial *now, const line *said)
         const char *name;
         size_t *count;
     } named[] = {
-        {"boundary", &given.boundaries.count},     {"length", &given.lengths.count},
-        {"speed", &given.speeds.count},            {"deadline", &given.deadlines.count},
-        {"set", &given.follower_count},            {"gap", &given.gaps.count},
-        {"task-length", &given.task_lengths.count}, {"task-period", &given.task_periods.count},
-        {"task-deadline", &given.task_deadlines.count},
+        {"boundary", &given.boundaries.count},      {"length", &given.lengths.count},
+        {"fallback", &given.fallbacks.count},       {"speed", &given.speeds.count},
+        {"deadline", &given.deadlines.count},       {"set", &given.follower_count},
+        {"gap", &given.gaps.count},                 {"task-length", &given.task_lengths.count},
+        {"task-period", &given.task_periods.count}, {"task-deadline", &given.task_deadlines.count},
     };
     for (size_t i = 0; i < sizeof named / sizeof named[0]; i++) {
         if (says(said, 1, named[i].name) && 0 < *named[i].count && said->count == 2) {

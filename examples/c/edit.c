@@ -1,6 +1,7 @@
 /*
  * Changes one gap of a sheet and writes it back: edit FILE FROM TO GAP NEW takes the sheet in FILE, sets the gap from row FROM to row
- * TO, and writes the sheet to NEW. Only a gap that is there can be changed. Skipped fields are not written.
+ * TO, and writes the sheet to NEW. Only a gap that is there can be changed. Skipped fields are not written, nor a fall-back that is the
+ * mode's boundary.
  * It ends with 0 where NEW is written, 1 where the sheet or its new values were refused, 2 where it was called wrongly.
  */
 #include <errno.h>
@@ -14,7 +15,7 @@ enum { MOST_FILE = 1 << 20, MOST_GAPS = MARNIPODE_MOST_ROWS * MARNIPODE_MOST_ROW
 
 /* A sheet's values, in columns as the writer takes them. */
 typedef struct {
-    uint16_t boundaries[MARNIPODE_MOST_MODES], lengths[MARNIPODE_MOST_MODES];
+    uint16_t boundaries[MARNIPODE_MOST_MODES], lengths[MARNIPODE_MOST_MODES], fallbacks[MARNIPODE_MOST_MODES];
     uint16_t speeds[MARNIPODE_MOST_ROWS], deadlines[MARNIPODE_MOST_ROWS];
     uint64_t followers[MARNIPODE_MOST_ROWS];
     uint16_t gaps[MOST_GAPS];
@@ -64,6 +65,7 @@ static marnipode_values values_of(const uint8_t *sheet, size_t size, columns *he
         marnipode_mode_answer mode = marnipode_mode(sheet, size, i);
         held->boundaries[i] = mode.boundary;
         held->lengths[i] = mode.length;
+        held->fallbacks[i] = mode.fallback;
     }
     for (size_t i = 0; i < judged.rows; i++) {
         marnipode_row_answer row = marnipode_row(sheet, size, i);
@@ -84,7 +86,7 @@ static marnipode_values values_of(const uint8_t *sheet, size_t size, columns *he
         held->task_periods[i] = task.period;
         held->task_deadlines[i] = task.deadline;
     }
-    return (marnipode_values){sheet + label.start, label.size, held->boundaries, held->lengths, judged.modes,
+    return (marnipode_values){sheet + label.start, label.size, held->boundaries, held->lengths, held->fallbacks, judged.modes,
                               held->speeds, held->deadlines, held->followers, judged.rows, held->gaps, gaps,
                               held->task_lengths, held->task_periods, held->task_deadlines, judged.tasks};
 }

@@ -30,6 +30,7 @@ pub fn values_number(
     label: &[u8],
     boundaries: &[u16],
     lengths: &[u16],
+    fallbacks: &[u16],
     speeds: &[u16],
     deadlines: &[u16],
     sets: &[u64],
@@ -38,14 +39,14 @@ pub fn values_number(
     task_periods: &[u16],
     task_deadlines: &[u16],
 ) -> u8
-    ensures { λ r. ⌜ r ≡ firstBroken (valuesRules (valuesFrom (now (label .entry)) (now (boundaries .entry)) (now (lengths .entry)) (now (speeds .entry)) (now (deadlines .entry)) (now (sets .entry)) (now (gaps .entry)) (now («task_lengths» .entry)) (now («task_periods» .entry)) (now («task_deadlines» .entry)))) ⌝ }
+    ensures { λ r. ⌜ r ≡ firstBroken (valuesRules (valuesFrom (now (label .entry)) (now (boundaries .entry)) (now (lengths .entry)) (now (fallbacks .entry)) (now (speeds .entry)) (now (deadlines .entry)) (now (sets .entry)) (now (gaps .entry)) (now («task_lengths» .entry)) (now («task_periods» .entry)) (now («task_deadlines» .entry)))) ⌝ }
 {
     let tally = Sheet::empty().tally;
     let number = label_number(label, tally);
     if number != 0 {
         return number;
     }
-    let modes = modes_number(boundaries, lengths, count_label(tally));
+    let modes = modes_number(boundaries, lengths, fallbacks, count_label(tally));
     if modes.number != 0 {
         return modes.number;
     }

@@ -62,6 +62,10 @@ module _ (bytes : List ℕ) where
     unfolding valuesOf valuesIn modeNumbered
     length-column = List·getD-map (λ mode. mode .length .0) (modesIn sheet) number noMode
 
+    pub fallback-column : getD (valuesOf bytes .fallbacks) number 0 ≡ modeNumbered bytes number .fallback .0
+    unfolding valuesOf valuesIn modeNumbered
+    fallback-column = List·getD-map (λ mode. mode .fallback .0) (modesIn sheet) number noMode
+
     -- the row of a number among those that the sheet counts
     row-at : ToldRow (getD (rowsIn sheet) number noRow) (rowNumbered bytes number)
     row-at =

@@ -11,7 +11,7 @@ use Rattle.fields.specs.Values.{emptySheet, noMode, noTask}
 use Rattle.sheet.specs.Judging.{judged}
 use Rattle.sheet.specs.Meaning.{modesIn, rowOf, gapOf}
 use Rattle.sheet.specs.Proper.{Bytes}
-use Rattle.sheet.specs.Values.{jobLength}
+use Rattle.modes.specs.Modes.{jobLength}
 use Rattle.sheet.proofs.Accepted.{accepted-proper}
 use Rattle.sheet.proofs.Refusals.{refused-empty}
 use Rattle.sheet.specs.declared.Answer.{Answer}

@@ -7,10 +7,10 @@ use fields::values::Row;
 use fields::values::Sheet;
 use fields::values::Task;
 use fields::values::row_of;
+use modes::job_length;
 use sets::WIDTH;
 use sets::below_row;
 use sheet::judge;
-use sheet::modes::job_length;
 ghost use mathlib.Core.Path.{_≡_};
 ghost use Prim.Native.Nat.{_≤_};
 ghost use lib.ListN.{length};
@@ -40,6 +40,7 @@ pub fn mode_numbered(bytes: &[u8], number: usize) -> Mode
     Mode {
         boundary: Rpm(0),
         length: Ticks(0),
+        fallback: Rpm(0),
     }
 }
 

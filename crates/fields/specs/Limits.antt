@@ -19,6 +19,13 @@ rpmLimit = 20000
 abbrev pub labelLimit : ℕ
 labelLimit = 32
 
+-- the bytes of a mode before its fall-back, and of the fall-back
+abbrev pub modeSize : ℕ
+modeSize = 4
+
+abbrev pub fallbackSize : ℕ
+fallbackSize = 2
+
 -- the bytes of a row before its gaps, and of each gap
 abbrev pub headSize : ℕ
 headSize = 8

@@ -2,10 +2,10 @@
 use Prim.Native.Nat.{ℕ, _+_, _*_}
 use mathlib.Core.List.{List, [], _∷_}
 use lib.ListN.{length, getD}
-use lib.Dec.{ltb}
-use Rattle.fields.specs.Deciding.{_when_, judgedBy}
+use lib.Dec.{ltb, eqb}
+use Rattle.fields.specs.Deciding.{_when_, pick, judgedBy}
 use Rattle.fields.specs.Fields.{kindOf, isRefused}
-use Rattle.fields.specs.Limits.{headSize}
+use Rattle.fields.specs.Limits.{modeSize, headSize}
 use Rattle.fields.specs.declared.reader.Step.{Step}
 use Rattle.fields.specs.declared.reader.Step.the-variants.{Field, Refusal}
 use Rattle.fields.specs.declared.units.Rpm.{Rpm}
@@ -30,9 +30,14 @@ rpmAt bytes at = record { 0 = wordAt bytes at }
 abbrev pub ticksAt : List ℕ → ℕ → Ticks
 ticksAt bytes at = record { 0 = wordAt bytes at }
 
--- a mode: boundary, job length
-abbrev pub modeAt : List ℕ → ℕ → Mode
-modeAt bytes start = record { boundary = rpmAt bytes start; length = ticksAt bytes (start + 2) }
+-- a mode's fall-back: the last number of a field that has one more, else the boundary
+abbrev pub fallbackAt : List ℕ → ℕ → ℕ → Rpm
+fallbackAt bytes start size = pick (eqb size modeSize) (rpmAt bytes start) (rpmAt bytes (start + modeSize))
+
+-- a mode, in a field of so many bytes: boundary, job length, fall-back
+abbrev pub modeAt : List ℕ → ℕ → ℕ → Mode
+modeAt bytes start size =
+    record { boundary = rpmAt bytes start; length = ticksAt bytes (start + 2); fallback = fallbackAt bytes start size }
 
 -- a row: speed, deadline, follower set, and the place where its gaps begin
 abbrev pub rowAt : List ℕ → ℕ → Row

@@ -1,6 +1,9 @@
--- The values of a sheet of which nothing is read yet.
+-- The values of a sheet of which nothing is read yet, and how many bytes a mode takes.
+use Prim.Native.Nat.{ℕ, _+_}
+use lib.Dec.{eqb}
 use lib.ListN.{replicate}
-use Rattle.fields.specs.Limits.{modeLimit, rowLimit, taskLimit}
+use Rattle.fields.specs.Deciding.{pick}
+use Rattle.fields.specs.Limits.{modeLimit, rowLimit, taskLimit, modeSize, fallbackSize}
 use Rattle.fields.specs.declared.values.Mode.{Mode}
 use Rattle.fields.specs.declared.values.Row.{Row}
 use Rattle.fields.specs.declared.values.Task.{Task}
@@ -8,7 +11,7 @@ use Rattle.fields.specs.declared.values.Sheet.{Sheet}
 
 -- a mode, a row and a task of zeros, which the arrays hold past their count
 abbrev pub noMode : Mode
-noMode = record { boundary = record { 0 = 0 }; length = record { 0 = 0 } }
+noMode = record { boundary = record { 0 = 0 }; length = record { 0 = 0 }; fallback = record { 0 = 0 } }
 
 abbrev pub noRow : Row
 noRow = record { speed = record { 0 = 0 }; deadline = record { 0 = 0 }; followers = 0; gaps = 0 }
@@ -28,9 +31,14 @@ emptySheet =
             rows = 0;
             tasks = 0;
             top = record { 0 = 0 };
+            fallback = record { 0 = 0 };
             fastest = record { 0 = 0 };
           };
       modes = replicate modeLimit noMode;
       rows = replicate rowLimit noRow;
       tasks = replicate taskLimit noTask;
     }
+
+-- how many bytes the shorter form of a mode has: a fall-back only where it is not the boundary
+unfoldable pub shortSize : Mode → ℕ
+shortSize mode = pick (eqb (mode .fallback .0) (mode .boundary .0)) modeSize (modeSize + fallbackSize)

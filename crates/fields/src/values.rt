@@ -3,7 +3,7 @@ use crate::units::Rpm;
 use crate::units::Ticks;
 ghost use mathlib.Core.Path.{_≡_};
 ghost use lib.ListN.{getD};
-ghost use Rattle.fields.specs.Values.{emptySheet, noRow};
+ghost use Rattle.fields.specs.Values.{emptySheet, noRow, shortSize};
 
 // A part of the file: where it starts and how many bytes it has.
 pub struct Part {
@@ -11,10 +11,23 @@ pub struct Part {
     pub size: usize,
 }
 
-// The job length of speeds up to a boundary.
+// The job length of speeds up to a boundary, and the fall-back to which an engine that slows down stays in the next mode.
 pub struct Mode {
     pub boundary: Rpm,
     pub length: Ticks,
+    pub fallback: Rpm,
+}
+
+impl Mode {
+    // How many bytes its shorter form has: a fall-back only where it is not the boundary.
+    pub fn short_size(self) -> usize
+        ensures { λ r. ⌜ r ≡ shortSize self ⌝ }
+    {
+        if self.fallback.0 == self.boundary.0 {
+            return Sheet::MODE;
+        }
+        Sheet::MODE + Sheet::FALLBACK
+    }
 }
 
 // A speed, its deadline, the set of rows that may follow, and the place in the file of the gaps to them.
@@ -32,13 +45,14 @@ pub struct Task {
     pub deadline: Ticks,
 }
 
-// What the rules know of the fields before: the last known tag, how many of each kind, the last boundary and the last speed.
+// What the rules know of the fields before: the last known tag, how many of each kind, the last boundary with its fall-back, and the last speed.
 pub struct Tally {
     pub last: usize,
     pub modes: usize,
     pub rows: usize,
     pub tasks: usize,
     pub top: Rpm,
+    pub fallback: Rpm,
     pub fastest: Rpm,
 }
 
@@ -62,9 +76,13 @@ impl Sheet {
     pub const RPM: Rpm = Rpm(20000);
 
     pub const TICKS: Ticks = Ticks(65535);
-    // The longest label, and the bytes of a row before its gaps and in each gap.
+    // The longest label.
     pub const LABEL: usize = 32;
+    // The bytes of a mode before its fall-back, and in its fall-back.
+    pub const MODE: usize = 4;
 
+    pub const FALLBACK: usize = 2;
+    // The bytes of a row before its gaps, and in each gap.
     pub const HEAD: usize = 8;
 
     pub const GAP: usize = 2;
@@ -76,6 +94,7 @@ impl Sheet {
         let mode = Mode {
             boundary: Rpm(0),
             length: Ticks(0),
+            fallback: Rpm(0),
         };
         let row = Row {
             speed: Rpm(0),
@@ -94,6 +113,7 @@ impl Sheet {
             rows: 0,
             tasks: 0,
             top: Rpm(0),
+            fallback: Rpm(0),
             fastest: Rpm(0),
         };
         let label = Part { start: 0, size: 0 };

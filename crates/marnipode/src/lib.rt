@@ -120,6 +120,7 @@ pub extern "C" fn marnipode_write_columns(
     label: &[u8],
     boundaries: &[u16],
     lengths: &[u16],
+    fallbacks: &[u16],
     speeds: &[u16],
     deadlines: &[u16],
     sets: &[u64],
@@ -129,12 +130,13 @@ pub extern "C" fn marnipode_write_columns(
     task_deadlines: &[u16],
     output: &mut [u8],
 ) -> WriteForC
-    ensures { λ r. ⌜ WriteExport (valuesFrom (now (label .entry)) (now (boundaries .entry)) (now (lengths .entry)) (now (speeds .entry)) (now (deadlines .entry)) (now (sets .entry)) (now (gaps .entry)) (now («task_lengths» .entry)) (now («task_periods» .entry)) (now («task_deadlines» .entry))) (now (output .entry)) r (now (output .exit)) ⌝ }
+    ensures { λ r. ⌜ WriteExport (valuesFrom (now (label .entry)) (now (boundaries .entry)) (now (lengths .entry)) (now (fallbacks .entry)) (now (speeds .entry)) (now (deadlines .entry)) (now (sets .entry)) (now (gaps .entry)) (now («task_lengths» .entry)) (now («task_periods» .entry)) (now («task_deadlines» .entry))) (now (output .entry)) r (now (output .exit)) ⌝ }
 {
     write_numbers(writer::write(
         label,
         boundaries,
         lengths,
+        fallbacks,
         speeds,
         deadlines,
         sets,

@@ -17,8 +17,8 @@ use Rattle.fields.specs.Deciding.{pick, anyFrom, firstBroken}
 use Rattle.fields.specs.Fields.{lineOf, fields}
 use Rattle.fields.specs.Reading.{fieldAt}
 use Rattle.fields.specs.Values.{emptySheet}
-use Rattle.sheet.specs.Values.{jobLength}
-use Rattle.rules.specs.Rules.{missing, outOfOrder, wrongLength, unlikeSet, full, badByte, badText, badRpm, unknownIn, unknownFollower, commonRules, textRules, modeRules, rowRules, taskRules}
+use Rattle.modes.specs.Modes.{firstLength, lengthIn, jobLength}
+use Rattle.rules.specs.Rules.{missing, outOfOrder, wrongLength, unlikeSet, full, badByte, badText, badRpm, badFallback, lastHangs, unknownIn, unknownFollower, commonRules, textRules, modeRules, rowRules, taskRules}
 use Rattle.sheet.specs.Content.{gapShorter, rowGapRules}
 use Rattle.sheet.specs.Judging.{refusal, headRules, ownRules, withField, endJudged, onField, walk, judged}
 use Rattle.sheet.specs.Meaning.{graphOf, eachTask, tasksOf}
@@ -155,5 +155,5 @@ all (c ∷ table) t =
     (law c (parts .0), all table (parts .1))
 
 pub cases-hold : All cases
-unfolding cases stepAt bestWithin best leastAt leastWithin least demandOf shortestOf restWithin witnessOf marginOf fixedOf fixedSum pick anyFrom firstBroken lineOf fields fieldAt emptySheet jobLength missing outOfOrder wrongLength unlikeSet full badByte badText badRpm gapShorter unknownIn unknownFollower commonRules textRules modeRules rowRules rowGapRules taskRules refusal headRules ownRules withField endJudged onField walk judged graphOf eachTask tasksOf below nextIn
+unfolding cases stepAt bestWithin best leastAt leastWithin least demandOf shortestOf restWithin witnessOf marginOf fixedOf fixedSum pick anyFrom firstBroken lineOf fields fieldAt emptySheet firstLength lengthIn jobLength missing outOfOrder wrongLength unlikeSet full badByte badText badRpm badFallback lastHangs gapShorter unknownIn unknownFollower commonRules textRules modeRules rowRules rowGapRules taskRules refusal headRules ownRules withField endJudged onField walk judged graphOf eachTask tasksOf below nextIn
 cases-hold = all cases tt

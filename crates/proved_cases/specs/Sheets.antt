@@ -1,4 +1,4 @@
--- The bytes of the sheets A and B, field by field; sheets/a.sheet and sheets/b.sheet are the same.
+-- The bytes of the sheets A, B and `Hangs on`, field by field; sheets/a.sheet, sheets/b.sheet and sheets/hangs-on.sheet are the same.
 use Prim.Native.Nat.{ℕ}
 use mathlib.Core.List.{List, [], _∷_, _++_}
 
@@ -32,4 +32,16 @@ sheetB =
     ++ (2 ∷ 0 ∷ 4 ∷ 11 ∷ 184 ∷ 0 ∷ 4 ∷ [])
     ++ (3 ∷ 0 ∷ 8 ∷ 7 ∷ 208 ∷ 0 ∷ 5 ∷ 0 ∷ 0 ∷ 0 ∷ 0 ∷ [])
     ++ (3 ∷ 0 ∷ 8 ∷ 11 ∷ 184 ∷ 0 ∷ 5 ∷ 0 ∷ 0 ∷ 0 ∷ 0 ∷ [])
+    ++ end
+
+-- the label `Hangs on`; modes up to 1,000 rpm with length 3 and fall-back 800, and up to 2,000 rpm with length 5; row 0 at 800 rpm, deadline 9, gaps 10 to itself and 9 to row 1; row 1 at 1,000 rpm, deadline 8, gaps 9 to row 0 and 8 to row 2; row 2 at 1,200 rpm, deadline 6, gap 8 to row 1; a fixed task of length 5, period 20, deadline 12
+abbrev pub sheetHangsOn : List ℕ
+sheetHangsOn =
+    (1 ∷ 0 ∷ 8 ∷ 72 ∷ 97 ∷ 110 ∷ 103 ∷ 115 ∷ 32 ∷ 111 ∷ 110 ∷ [])
+    ++ (2 ∷ 0 ∷ 6 ∷ 3 ∷ 232 ∷ 0 ∷ 3 ∷ 3 ∷ 32 ∷ [])
+    ++ (2 ∷ 0 ∷ 4 ∷ 7 ∷ 208 ∷ 0 ∷ 5 ∷ [])
+    ++ (3 ∷ 0 ∷ 12 ∷ 3 ∷ 32 ∷ 0 ∷ 9 ∷ 0 ∷ 0 ∷ 0 ∷ 3 ∷ 0 ∷ 10 ∷ 0 ∷ 9 ∷ [])
+    ++ (3 ∷ 0 ∷ 12 ∷ 3 ∷ 232 ∷ 0 ∷ 8 ∷ 0 ∷ 0 ∷ 0 ∷ 5 ∷ 0 ∷ 9 ∷ 0 ∷ 8 ∷ [])
+    ++ (3 ∷ 0 ∷ 10 ∷ 4 ∷ 176 ∷ 0 ∷ 6 ∷ 0 ∷ 0 ∷ 0 ∷ 2 ∷ 0 ∷ 8 ∷ [])
+    ++ (4 ∷ 0 ∷ 6 ∷ 0 ∷ 5 ∷ 0 ∷ 20 ∷ 0 ∷ 12 ∷ [])
     ++ end

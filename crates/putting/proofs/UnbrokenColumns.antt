@@ -41,12 +41,17 @@ parted : (tag : ℕ) → 1 ≤ lineOf tag .shortest → Unbroken (CutEntry tag �
 parted tag some (tally, none) = cut-broken tag [] tally some (entries-kept tally (CutEntry tag ∷ []) none)
 
 -- so the columns of a kind are equally long
-pub modes-long : (boundaries lengths : List ℕ) → Unbroken (modeEntries boundaries lengths) → length boundaries ≡ length lengths
+pub modes-long : (boundaries lengths fallbacks : List ℕ) → Unbroken (modeEntries boundaries lengths fallbacks)
+    → (length boundaries ≡ length lengths) × (length boundaries ≡ length fallbacks)
 unfolding modeEntries lineOf fields
-modes-long [] [] unbroken = refl
-modes-long [] (x ∷ lengths) unbroken = absurd (parted 2 (omega arith) unbroken)
-modes-long (boundary ∷ boundaries) [] unbroken = absurd (parted 2 (omega arith) unbroken)
-modes-long (boundary ∷ boundaries) (x ∷ lengths) unbroken = let behind = modes-long boundaries lengths (unbroken-behind _ _ unbroken) in omega arith
+modes-long [] [] [] unbroken = (refl, refl)
+modes-long [] [] (fallback ∷ fallbacks) unbroken = absurd (parted 2 (omega arith) unbroken)
+modes-long [] (x ∷ lengths) fallbacks unbroken = absurd (parted 2 (omega arith) unbroken)
+modes-long (boundary ∷ boundaries) [] fallbacks unbroken = absurd (parted 2 (omega arith) unbroken)
+modes-long (boundary ∷ boundaries) (x ∷ lengths) [] unbroken = absurd (parted 2 (omega arith) unbroken)
+modes-long (boundary ∷ boundaries) (x ∷ lengths) (fallback ∷ fallbacks) unbroken =
+    let behind = modes-long boundaries lengths fallbacks (unbroken-behind _ _ unbroken) in
+    (omega arith, omega arith)
 
 pub rows-long : (speeds deadlines sets gaps : List ℕ) → Unbroken (rowEntries speeds deadlines sets gaps) → (length speeds ≡ length deadlines) × (length speeds ≡ length sets)
 unfolding rowEntries lineOf fields

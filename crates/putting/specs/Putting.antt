@@ -32,6 +32,6 @@ fromRows speeds deadlines sets gaps taskLengths taskPeriods taskDeadlines =
     fieldsOf (rowEntries speeds deadlines sets gaps) ++ fromTasks taskLengths taskPeriods taskDeadlines
 
 -- the modes and what follows them
-unfoldable pub fromModes : List ℕ → List ℕ → List ℕ → List ℕ → List ℕ → List ℕ → List ℕ → List ℕ → List ℕ → List ℕ
-fromModes boundaries lengths speeds deadlines sets gaps taskLengths taskPeriods taskDeadlines =
-    fieldsOf (modeEntries boundaries lengths) ++ fromRows speeds deadlines sets gaps taskLengths taskPeriods taskDeadlines
+unfoldable pub fromModes : List ℕ → List ℕ → List ℕ → List ℕ → List ℕ → List ℕ → List ℕ → List ℕ → List ℕ → List ℕ → List ℕ
+fromModes boundaries lengths fallbacks speeds deadlines sets gaps taskLengths taskPeriods taskDeadlines =
+    fieldsOf (modeEntries boundaries lengths fallbacks) ++ fromRows speeds deadlines sets gaps taskLengths taskPeriods taskDeadlines

@@ -18,11 +18,16 @@ ghost use Rattle.written.specs.Written.{contentOf, fieldOf, fieldsOf};
 ghost use Rattle.putting.specs.Putting.{Unbroken, Narrow, Put};
 
 // The modes' fields, and how many bytes they have.
-pub(crate) fn put_modes(out: &mut [u8], boundaries: &[u16], lengths: &[u16]) -> usize
-    requires { ⌜ length (fieldsOf (modeEntries (now boundaries) (now lengths))) ≤ length (now out) ⌝ }
-    requires { ⌜ Unbroken (modeEntries (now boundaries) (now lengths)) ⌝ }
-    ensures { λ r. ⌜ r ≡ length (fieldsOf (modeEntries (now (boundaries .entry)) (now (lengths .entry)))) ⌝ }
-    ensures { λ _. ⌜ Put (fieldsOf (modeEntries (now (boundaries .entry)) (now (lengths .entry)))) (now (out .entry)) (now (out .exit)) ⌝ }
+pub(crate) fn put_modes(
+    out: &mut [u8],
+    boundaries: &[u16],
+    lengths: &[u16],
+    fallbacks: &[u16],
+) -> usize
+    requires { ⌜ length (fieldsOf (modeEntries (now boundaries) (now lengths) (now fallbacks))) ≤ length (now out) ⌝ }
+    requires { ⌜ Unbroken (modeEntries (now boundaries) (now lengths) (now fallbacks)) ⌝ }
+    ensures { λ r. ⌜ r ≡ length (fieldsOf (modeEntries (now (boundaries .entry)) (now (lengths .entry)) (now (fallbacks .entry)))) ⌝ }
+    ensures { λ _. ⌜ Put (fieldsOf (modeEntries (now (boundaries .entry)) (now (lengths .entry)) (now (fallbacks .entry)))) (now (out .entry)) (now (out .exit)) ⌝ }
 {
     let mut number: usize = 0;
     let mut at: usize = 0;
@@ -30,21 +35,23 @@ pub(crate) fn put_modes(out: &mut [u8], boundaries: &[u16], lengths: &[u16]) -> 
         let mode = Mode {
             boundary: Rpm(boundaries[number]),
             length: Ticks(lengths[number]),
+            fallback: Rpm(fallbacks[number]),
         };
         put_mode(&mut out[at..], mode);
-        at += 7;
+        at += 3 + mode.short_size();
         number += 1;
     }
     at
 }
 
-// One mode's field.
+// One mode's field, in its shorter form.
 fn put_mode(out: &mut [u8], mode: Mode)
-    requires { ⌜ 7 ≤ length (now out) ⌝ }
+    requires { ⌜ length (fieldOf (ModeEntry mode)) ≤ length (now out) ⌝ }
     ensures { λ _. ⌜ Put (fieldOf (ModeEntry mode)) (now (out .entry)) (now (out .exit)) ⌝ }
 {
-    let numbers = [mode.boundary.0, mode.length.0];
-    put_field(out, 2, &numbers);
+    let numbers = [mode.boundary.0, mode.length.0, mode.fallback.0];
+    let count = mode.short_size() / 2;
+    put_field(out, 2, &numbers[..count]);
 }
 
 // The rows' fields, and how many bytes they have.

@@ -23,6 +23,7 @@ pub fn put_sheet(
     label: &[u8],
     boundaries: &[u16],
     lengths: &[u16],
+    fallbacks: &[u16],
     speeds: &[u16],
     deadlines: &[u16],
     sets: &[u64],
@@ -31,10 +32,10 @@ pub fn put_sheet(
     task_periods: &[u16],
     task_deadlines: &[u16],
 )
-    requires { ⌜ length (written (valuesFrom (now label) (now boundaries) (now lengths) (now speeds) (now deadlines) (now sets) (now gaps) (now «task_lengths») (now «task_periods») (now «task_deadlines»))) ≤ length (now out) ⌝ }
-    requires { ⌜ firstBroken (entriesRules noTally (entries (valuesFrom (now label) (now boundaries) (now lengths) (now speeds) (now deadlines) (now sets) (now gaps) (now «task_lengths») (now «task_periods») (now «task_deadlines»)))) ≡ 0 ⌝ }
+    requires { ⌜ length (written (valuesFrom (now label) (now boundaries) (now lengths) (now fallbacks) (now speeds) (now deadlines) (now sets) (now gaps) (now «task_lengths») (now «task_periods») (now «task_deadlines»))) ≤ length (now out) ⌝ }
+    requires { ⌜ firstBroken (entriesRules noTally (entries (valuesFrom (now label) (now boundaries) (now lengths) (now fallbacks) (now speeds) (now deadlines) (now sets) (now gaps) (now «task_lengths») (now «task_periods») (now «task_deadlines»)))) ≡ 0 ⌝ }
     requires { ⌜ Narrow (now sets) ⌝ }
-    ensures { λ _. ⌜ Put (written (valuesFrom (now (label .entry)) (now (boundaries .entry)) (now (lengths .entry)) (now (speeds .entry)) (now (deadlines .entry)) (now (sets .entry)) (now (gaps .entry)) (now («task_lengths» .entry)) (now («task_periods» .entry)) (now («task_deadlines» .entry)))) (now (out .entry)) (now (out .exit)) ⌝ }
+    ensures { λ _. ⌜ Put (written (valuesFrom (now (label .entry)) (now (boundaries .entry)) (now (lengths .entry)) (now (fallbacks .entry)) (now (speeds .entry)) (now (deadlines .entry)) (now (sets .entry)) (now (gaps .entry)) (now («task_lengths» .entry)) (now («task_periods» .entry)) (now («task_deadlines» .entry)))) (now (out .entry)) (now (out .exit)) ⌝ }
 {
     put_label(out, label);
     let at = 3 + label.len();
@@ -42,6 +43,7 @@ pub fn put_sheet(
         &mut out[at..],
         boundaries,
         lengths,
+        fallbacks,
         speeds,
         deadlines,
         sets,
@@ -57,6 +59,7 @@ fn put_from_modes(
     out: &mut [u8],
     boundaries: &[u16],
     lengths: &[u16],
+    fallbacks: &[u16],
     speeds: &[u16],
     deadlines: &[u16],
     sets: &[u64],
@@ -65,14 +68,14 @@ fn put_from_modes(
     task_periods: &[u16],
     task_deadlines: &[u16],
 )
-    requires { ⌜ length (fromModes (now boundaries) (now lengths) (now speeds) (now deadlines) (now sets) (now gaps) (now «task_lengths») (now «task_periods») (now «task_deadlines»)) ≤ length (now out) ⌝ }
-    requires { ⌜ Unbroken (modeEntries (now boundaries) (now lengths)) ⌝ }
+    requires { ⌜ length (fromModes (now boundaries) (now lengths) (now fallbacks) (now speeds) (now deadlines) (now sets) (now gaps) (now «task_lengths») (now «task_periods») (now «task_deadlines»)) ≤ length (now out) ⌝ }
+    requires { ⌜ Unbroken (modeEntries (now boundaries) (now lengths) (now fallbacks)) ⌝ }
     requires { ⌜ Unbroken (rowEntries (now speeds) (now deadlines) (now sets) (now gaps)) ⌝ }
     requires { ⌜ Unbroken (taskEntries (now «task_lengths») (now «task_periods») (now «task_deadlines»)) ⌝ }
     requires { ⌜ Narrow (now sets) ⌝ }
-    ensures { λ _. ⌜ Put (fromModes (now (boundaries .entry)) (now (lengths .entry)) (now (speeds .entry)) (now (deadlines .entry)) (now (sets .entry)) (now (gaps .entry)) (now («task_lengths» .entry)) (now («task_periods» .entry)) (now («task_deadlines» .entry))) (now (out .entry)) (now (out .exit)) ⌝ }
+    ensures { λ _. ⌜ Put (fromModes (now (boundaries .entry)) (now (lengths .entry)) (now (fallbacks .entry)) (now (speeds .entry)) (now (deadlines .entry)) (now (sets .entry)) (now (gaps .entry)) (now («task_lengths» .entry)) (now («task_periods» .entry)) (now («task_deadlines» .entry))) (now (out .entry)) (now (out .exit)) ⌝ }
 {
-    let size = put_modes(out, boundaries, lengths);
+    let size = put_modes(out, boundaries, lengths, fallbacks);
     put_from_rows(
         &mut out[size..],
         speeds,

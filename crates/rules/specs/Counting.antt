@@ -1,6 +1,7 @@
 -- What a field that breaks no rule adds to the tally.
 use Prim.Native.Nat.{_+_}
 use Rattle.fields.specs.declared.units.Rpm.{Rpm}
+use Rattle.fields.specs.declared.values.Mode.{Mode}
 use Rattle.fields.specs.declared.values.Tally.{Tally}
 
 -- the label is read
@@ -12,18 +13,20 @@ countLabel tally =
       rows = tally .rows;
       tasks = tally .tasks;
       top = tally .top;
+      fallback = tally .fallback;
       fastest = tally .fastest;
     }
 
--- one mode more, with its boundary
-abbrev pub countMode : Tally → Rpm → Tally
-countMode tally boundary =
+-- one mode more, with its boundary and fall-back
+abbrev pub countMode : Tally → Mode → Tally
+countMode tally mode =
     record {
       last = 2;
       modes = tally .modes + 1;
       rows = tally .rows;
       tasks = tally .tasks;
-      top = boundary;
+      top = mode .boundary;
+      fallback = mode .fallback;
       fastest = tally .fastest;
     }
 
@@ -36,6 +39,7 @@ countRow tally speed =
       rows = tally .rows + 1;
       tasks = tally .tasks;
       top = tally .top;
+      fallback = tally .fallback;
       fastest = speed;
     }
 
@@ -48,5 +52,6 @@ countTask tally =
       rows = tally .rows;
       tasks = tally .tasks + 1;
       top = tally .top;
+      fallback = tally .fallback;
       fastest = tally .fastest;
     }

@@ -1,5 +1,5 @@
 -- The rules 3 and 5 to 10 on the tally and on values: a test for each, and the order in which a field's rules are tried.
-use Prim.Native.Nat.{ℕ, _+_, _-_, _*_}
+use Prim.Native.Nat.{ℕ, _+_, _-_, _*_, _%_}
 use mathlib.Core.List.{List, [], _∷_}
 use mathlib.Core.Bool.{Bool, true, false, not}
 use lib.ListN.{getD}
@@ -9,7 +9,7 @@ use Rattle.sets.specs.declared.Next.{Next}
 use Rattle.sets.specs.declared.Next.the-variants.{At, Nothing}
 use Rattle.fields.specs.Deciding.{Rule, _when_, _or_, pick, anyFrom}
 use Rattle.fields.specs.Fields.{lineOf}
-use Rattle.fields.specs.Limits.{rpmLimit, headSize, gapSize}
+use Rattle.fields.specs.Limits.{rpmLimit, modeSize, headSize, gapSize}
 use Rattle.fields.specs.Values.{noRow}
 use Rattle.fields.specs.declared.units.Rpm.{Rpm}
 use Rattle.fields.specs.declared.units.Ticks.{Ticks}
@@ -31,7 +31,8 @@ outOfOrder last tag =
 
 -- rule 5: a length that the tag's line does not allow
 unfoldable pub wrongLength : ℕ → ℕ → Bool
-wrongLength tag size = ltb size (lineOf tag .shortest) or ltb (lineOf tag .longest) size
+wrongLength tag size =
+    ltb size (lineOf tag .shortest) or ltb (lineOf tag .longest) size or pick (lineOf tag .numbers) (not (eqb (size % 2) 0)) false
 
 -- how many rows are in a follower set
 abbrev pub followerCount : ℕ → ℕ
@@ -87,11 +88,22 @@ commonRules tag last size unlike count =
 unfoldable pub textRules : List ℕ → ℕ → ℕ → List Rule
 textRules bytes start size = 7 when (badText bytes start size) ∷ []
 
--- the rules of a mode's numbers; rule 8: a boundary that is not above the one before
-unfoldable pub modeRules : Tally → Mode → List Rule
-modeRules tally mode =
+-- rule 7: a fall-back of 0, above its own boundary or below the boundary before, where it stands in a field of so many bytes
+unfoldable pub badFallback : Tally → Mode → ℕ → Bool
+badFallback tally mode size =
+    pick (eqb size modeSize) false
+    (eqb (mode .fallback .0) 0 or ltb (mode .boundary .0) (mode .fallback .0) or ltb (mode .fallback .0) (tally .top .0))
+
+-- rule 7, at a row: the last mode, above which there is none, has a fall-back unlike its boundary
+unfoldable pub lastHangs : Tally → Bool
+lastHangs tally = not (eqb (tally .fallback .0) (tally .top .0))
+
+-- the rules of the numbers of a mode, in a field of so many bytes; rule 8: a boundary that is not above the one before
+unfoldable pub modeRules : Tally → Mode → ℕ → List Rule
+modeRules tally mode size =
     7 when (badRpm (mode .boundary))
     ∷ 7 when (noTicks (mode .length))
+    ∷ 7 when (badFallback tally mode size)
     ∷ 8 when (leb (mode .boundary .0) (tally .top .0))
     ∷ []
 
@@ -99,7 +111,8 @@ modeRules tally mode =
 -- rule 8: a speed that is not above the one before, or is above the last boundary; rule 10: a gap below the deadline
 unfoldable pub rowRules : Tally → Row → Bool → Bool → List Rule
 rowRules tally row zeroGap shortGap =
-    7 when (badRpm (row .speed))
+    7 when (lastHangs tally)
+    ∷ 7 when (badRpm (row .speed))
     ∷ 7 when (noTicks (row .deadline))
     ∷ 7 when zeroGap
     ∷ 8 when (leb (row .speed .0) (tally .fastest .0))

@@ -1,5 +1,6 @@
 // What a field that breaks no rule adds to the tally.
 use fields::units::Rpm;
+use fields::values::Mode;
 use fields::values::Tally;
 ghost use mathlib.Core.Path.{_≡_};
 ghost use Prim.Native.Nat.{_<_};
@@ -15,15 +16,18 @@ pub fn count_label(tally: Tally) -> Tally
     next
 }
 
-// One mode more, with its boundary.
-pub fn count_mode(tally: Tally, boundary: Rpm) -> Tally
+// One mode more, with its boundary and fall-back.
+pub fn count_mode(tally: Tally, mode: Mode) -> Tally
     requires { ⌜ tally .modes < modeLimit ⌝ }
-    ensures { λ r. ⌜ r ≡ countMode tally boundary ⌝ }
+    ensures { λ r. ⌜ r ≡ countMode tally mode ⌝ }
 {
     let mut next = tally;
+    let boundary = mode.boundary;
+    let fallback = mode.fallback;
     next.last = 2;
     next.modes = tally.modes + 1;
     next.top = boundary;
+    next.fallback = fallback;
     next
 }
 

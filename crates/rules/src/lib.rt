@@ -12,7 +12,7 @@ use fields::values::Task;
 use fields::values::row_of;
 ghost use mathlib.Core.Path.{_≡_};
 ghost use Rattle.fields.specs.Deciding.{firstBroken};
-ghost use Rattle.rules.specs.Rules.{missing, outOfOrder, wrongLength, full, badByte, badRpm, unlikeSet, unknownIn, unknownFollower, commonRules, modeRules, rowRules, taskRules};
+ghost use Rattle.rules.specs.Rules.{missing, outOfOrder, wrongLength, full, badByte, badRpm, badFallback, lastHangs, unlikeSet, unknownIn, unknownFollower, commonRules, modeRules, rowRules, taskRules};
 
 // The first rules of every known field: its place in the order, its length, its count. 0 where none is broken.
 // It is told whether the field is a row whose length is unlike its follower set.
@@ -34,9 +34,9 @@ pub fn common_number(tag: usize, last: usize, size: usize, unlike: bool, count: 
     0
 }
 
-// The rules of a mode's numbers. Rule 8: a boundary that is not above the one before.
-pub fn mode_number(tally: Tally, mode: Mode) -> u8
-    ensures { λ r. ⌜ r ≡ firstBroken (modeRules tally mode) ⌝ }
+// The rules of the numbers of a mode, in a field of `size` bytes. Rule 8: a boundary that is not above the one before.
+pub fn mode_number(tally: Tally, mode: Mode, size: usize) -> u8
+    ensures { λ r. ⌜ r ≡ firstBroken (modeRules tally mode size) ⌝ }
 {
     let boundary = mode.boundary;
     let length = mode.length;
@@ -46,6 +46,9 @@ pub fn mode_number(tally: Tally, mode: Mode) -> u8
     if length.is_zero() {
         return 7;
     }
+    if bad_fallback(tally, mode, size) {
+        return 7;
+    }
     if boundary.at_most(tally.top) {
         return 8;
     }
@@ -53,12 +56,16 @@ pub fn mode_number(tally: Tally, mode: Mode) -> u8
 }
 
 // The rules of a row's numbers; of its gaps it is told whether one is zero and whether one is below the deadline.
-// Rule 8: a speed that is not above the one before, or is above the last boundary. Rule 10: a gap below the deadline.
+// Rule 7 also: the last mode has a fall-back unlike its boundary. Rule 8: a speed that is not above the one before, or is above the last
+// boundary. Rule 10: a gap below the deadline.
 pub fn row_number(tally: Tally, row: Row, zero_gap: bool, short_gap: bool) -> u8
     ensures { λ r. ⌜ r ≡ firstBroken (rowRules tally row «zero_gap» «short_gap») ⌝ }
 {
     let speed = row.speed;
     let deadline = row.deadline;
+    if last_hangs(tally) {
+        return 7;
+    }
     if bad_rpm(speed) {
         return 7;
     }
@@ -139,7 +146,13 @@ pub fn wrong_length(tag: usize, size: usize) -> bool
     if size < line.shortest {
         return true;
     }
-    line.longest < size
+    if line.longest < size {
+        return true;
+    }
+    if line.numbers {
+        return size % 2 != 0;
+    }
+    false
 }
 
 // Rule 5 of a row: a length that is not its head and one gap for each row of the follower set.
@@ -175,6 +188,31 @@ pub fn bad_rpm(speed: Rpm) -> bool
         return true;
     }
     speed.above(Sheet::RPM)
+}
+
+// Rule 7 of a mode's fall-back, which is judged only where it stands in the field.
+fn bad_fallback(tally: Tally, mode: Mode, size: usize) -> bool
+    ensures { λ r. ⌜ r ≡ badFallback tally mode size ⌝ }
+{
+    let fallback = mode.fallback;
+    let top = tally.top;
+    if size == Sheet::MODE {
+        return false;
+    }
+    if fallback.is_zero() {
+        return true;
+    }
+    if fallback.above(mode.boundary) {
+        return true;
+    }
+    top.above(fallback)
+}
+
+// Rule 7 of the last mode, above which there is none: a fall-back unlike its boundary.
+fn last_hangs(tally: Tally) -> bool
+    ensures { λ r. ⌜ r ≡ lastHangs tally ⌝ }
+{
+    tally.fallback.0 != tally.top.0
 }
 
 // Rule 9 of one follower set: it has a row that is not among the sheet's.

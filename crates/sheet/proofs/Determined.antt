@@ -10,8 +10,6 @@ use Rattle.sheet.proofs.judge.Kinds as judge
 use Rattle.sheet.proofs.judge.Reads as judge-reads
 use Rattle.sheet.proofs.label.Kinds as label
 use Rattle.sheet.proofs.label.Reads as label-reads
-use Rattle.sheet.proofs.modes.job_length.Kinds as job-length
-use Rattle.sheet.proofs.modes.job_length.Reads as job-length-reads
 
 pub judge-one : Determines 1 judge.ps judge.r judge-reads.Learnt (λ κs x. x)
 judge-one = one-value 1 judge.ps judge.r (λ κs x. x) _
@@ -29,6 +27,3 @@ same-part bytes part x y p q i = (((p .0 ∙ sym (q .0)) i, (p .1 ∙ sym (q .1)
 -- the same part of the caller's memory, and not only equal bytes
 pub label-one : Determines 1 label.ps label.r label-reads.Learnt (λ κs x. placeAndBytes x)
 label-one κs args x y s t p q = same-part (args .0) (judged (now (args .0)) .sheet .label) x y p q
-
-pub job-length-one : Determines 0 job-length.ps job-length.r job-length-reads.Learnt (λ κs x. x)
-job-length-one = one-value 0 job-length.ps job-length.r (λ κs x. x) _

@@ -2,7 +2,7 @@
 use Prim.Native.Nat.{ℕ, _+_, _≤_, _<_}
 use native.Mathlib.Omega.{arith}
 use native.Mathlib.Nat.{eq-or-lt-of-le, le-refl}
-use mathlib.Core.Path.{_≡_}
+use mathlib.Core.Path.{_≡_, ap}
 use mathlib.Core.Logic.{⊎-elim}
 use mathlib.Core.List.{List}
 use lib.ListN.{length, getD, take, set, replicate, length-set, length-replicate, List·getD-eq-default}
@@ -60,6 +60,18 @@ module _ {A : Type 0} (none : A) where
         let l : k ≤ count = omega arith in
         ⊎-elim (λ e. rw (new k e) one) (λ b. rw (before k b) (each k b)) (eq-or-lt-of-le l)
 
+    -- what holds of each value and the next one
+    pub pairs-more : (R : A → A → Type 0) → ((k : ℕ) → k + 1 ≡ count → R (getD values k none) a)
+        → ((k : ℕ) → k + 1 < count → R (getD values k none) (getD values (k + 1) none))
+        → (k : ℕ) → k + 1 < count + 1 → R (getD (set values count a) k none) (getD (set values count a) (k + 1) none)
+    pairs-more R last pairs k h =
+        let l : k + 1 ≤ count = omega arith in
+        ⊎-elim (λ e. rw (before k (omega arith), new (k + 1) e) (last k e)) (λ b. rw (before k (omega arith), before (k + 1) b) (pairs k b)) (eq-or-lt-of-le l)
+
+    -- the last one
+    pub last-new : (k : ℕ) → k + 1 ≡ count + 1 → getD (set values count a) k none ≡ a
+    last-new k e = new k (omega arith)
+
     pub held-more : (limit : ℕ) (F : A → Type 0) → F a → Held limit F values count → Held limit F (set values count a) (count + 1)
     held-more limit F one held =
         record { room = simp length-set (held .room); most = omega (arith, held .room); each = each-more F one (held .each) }
@@ -67,13 +79,8 @@ module _ {A : Type 0} (none : A) where
     pub rising-more : (f : A → ℕ) (last : ℕ) → last < f a → Rising f values count last → Rising f (set values count a) (count + 1) (f a)
     rising-more f last above rising =
         record {
-          rise = λ k h.
-              let l : k + 1 ≤ count = omega arith in
-              ⊎-elim
-              (λ e. rw (before k (omega arith), new (k + 1) e) (omega (arith, rising .ends k e)))
-              (λ b. rw (before k (omega arith), before (k + 1) b) (rising .rise k b))
-              (eq-or-lt-of-le l);
+          rise = pairs-more (λ one next. f one < f next) (λ k e. omega (arith, rising .ends k e)) (rising .rise);
           most = each-more (λ b. f b ≤ f a) (omega arith) (λ k h. omega (arith, rising .most k h));
-          ends = λ k e. let l : k ≡ count = omega arith in rw (new k l);
+          ends = λ k e. ap f (last-new k e);
           starts = λ e. absurd (omega arith);
         }

@@ -42,8 +42,8 @@ pub record Keeps (bytes : List ℕ) (P : ℕ → Sheet → Type 0) (Q : Judged �
       → Kept (commonRules 1 (sheet .tally .last) size false 0) → badText bytes start size ≡ false
       → P next (withLabel sheet start size)
   pub mode : (sheet : Sheet) (at start size next : ℕ) → fieldAt bytes at ≡ Field ModeField start size next → P at sheet
-      → Kept (commonRules 2 (sheet .tally .last) size false (sheet .tally .modes)) → Kept (modeRules (sheet .tally) (modeAt bytes start))
-      → P next (withMode sheet (modeAt bytes start))
+      → Kept (commonRules 2 (sheet .tally .last) size false (sheet .tally .modes)) → Kept (modeRules (sheet .tally) (modeAt bytes start size) size)
+      → P next (withMode sheet (modeAt bytes start size))
   pub row : (sheet : Sheet) (at start size next : ℕ) → fieldAt bytes at ≡ Field RowField start size next → P at sheet
       → Kept (commonRules 3 (sheet .tally .last) size (unlikeSet size (rowAt bytes start .followers)) (sheet .tally .rows)) → Kept (rowGapRules bytes (sheet .tally) (rowAt bytes start))
       → P next (withRow sheet (rowAt bytes start))

@@ -31,9 +31,9 @@ module _ (tag last size count : ℕ) (unlike : Bool) where
   unfolding commonRules full
   common-says k = (k .0, k .1 .0, k .1 .1 .0, leb-false _ _ (k .1 .1 .1 .0))
 
-pub mode-numbered : (tally : Tally) (mode : Mode) → T (numbered (modeRules tally mode))
+pub mode-numbered : (tally : Tally) (mode : Mode) (size : ℕ) → T (numbered (modeRules tally mode size))
 unfolding modeRules
-mode-numbered tally mode = tt
+mode-numbered tally mode size = tt
 
 pub row-numbered : (bytes : List ℕ) (tally : Tally) (row : Row) → T (numbered (rowGapRules bytes tally row))
 unfolding rowRules rowGapRules
@@ -77,7 +77,7 @@ module _ (bytes : List ℕ) (tally : Tally) (start size : ℕ) where
   unfolding ownRules textRules
   own-numbered RefusedTag = tt
   own-numbered LabelField = tt
-  own-numbered ModeField = mode-numbered _ _
+  own-numbered ModeField = mode-numbered _ _ _
   own-numbered RowField = row-numbered _ _ _
   own-numbered TaskField = task-numbered _
   own-numbered EndField = tt

@@ -1,14 +1,11 @@
 -- The graph of a proper sheet: it is sound, and every time of it is in range.
-use Prim.Native.Nat.{ℕ, zero, suc, _-_, _≤_, _<_}
+use Prim.Native.Nat.{ℕ, _-_, _≤_, _<_}
 use native.Mathlib.Omega.{arith}
-use mathlib.Core.Path.{_≡_, refl}
+use mathlib.Core.Path.{_≡_}
 use mathlib.Core.Logic.{_⊎_, inl, inr, ⊎-elim}
-use mathlib.Core.Bool.{Bool, true, false}
-use mathlib.Core.List.{List, [], _∷_}
-use lib.Dec.{leb}
-use lib.ListN.{length, getD, take}
+use mathlib.Core.List.{List}
+use lib.ListN.{length, take}
 use lib.Seq.{getD-take}
-use borrow.Author.Tests.{leb-false}
 use Rattle.sets.specs.Sets.{member}
 use Rattle.sets.proofs.Bits.{member-true}
 use Rattle.sets.proofs.Counts.{below-lt}
@@ -19,27 +16,9 @@ use Rattle.fields.specs.Deciding.{pick}
 use Rattle.sheet.specs.Meaning.{rowOf, lengthOf, gapOf, graphOf}
 use Rattle.sheet.specs.Proper.{Positive, ProperMode, Proper}
 use Rattle.fields.specs.Values.{noMode}
-use Rattle.sheet.specs.Values.{jobLength}
-use Rattle.fields.specs.declared.units.Rpm.{Rpm}
-use Rattle.fields.specs.declared.units.Ticks.{Ticks}
-use Rattle.fields.specs.declared.values.Mode.{Mode}
 use Rattle.fields.specs.declared.values.Sheet.{Sheet}
+use Rattle.modes.proofs.Among.{job-length-of}
 use Rattle.sheet.proofs.Growing.{all-there}
-
--- where a boundary is at or above the speed, the job length is that of one of the modes
-job-length-of : (F : Ticks → Type 0) (modes : List Mode) (speed : Rpm) → ((i : ℕ) → i < length modes → F (getD modes i noMode .length))
-    → (k : ℕ) → k < length modes → speed .0 ≤ getD modes k noMode .boundary .0 → F (jobLength modes speed)
-unfolding jobLength pick
-job-length-of F [] speed each k h l = absurd (omega arith)
-job-length-of F (mode ∷ modes) speed each k h l =
-    first (job-length-of F modes speed (λ i h. each (suc i) (omega arith))) (leb (speed .0) (mode .boundary .0)) refl k h l
-  where
-    first : ((k : ℕ) → k < length modes → speed .0 ≤ getD modes k noMode .boundary .0 → F (jobLength modes speed))
-        → (b : Bool) → leb (speed .0) (mode .boundary .0) ≡ b
-        → (k : ℕ) → k < suc (length modes) → speed .0 ≤ getD (mode ∷ modes) k noMode .boundary .0 → F (pick b (mode .length) (jobLength modes speed))
-    first later true e k h l = each 0 (omega arith)
-    first later false e zero h l = absurd (omega (arith, leb-false (speed .0) (mode .boundary .0) e))
-    first later false e (suc k) h l = later k (omega arith) l
 
 module _ (bytes : List ℕ) (sheet : Sheet) (proper : Proper bytes sheet) where
   -- every row's speed has a mode, and so a length in range

@@ -52,7 +52,7 @@ headRules bytes tally SkippedField start size = []
 unfoldable pub ownRules : List ℕ → Tally → Kind → ℕ → ℕ → List Rule
 ownRules bytes tally RefusedTag start size = []
 ownRules bytes tally LabelField start size = textRules bytes start size
-ownRules bytes tally ModeField start size = modeRules tally (modeAt bytes start)
+ownRules bytes tally ModeField start size = modeRules tally (modeAt bytes start size) size
 ownRules bytes tally RowField start size = rowGapRules bytes tally (rowAt bytes start)
 ownRules bytes tally TaskField start size = taskRules (taskAt bytes start)
 ownRules bytes tally EndField start size = []
@@ -65,7 +65,7 @@ fieldRules bytes tally kind start size = headRules bytes tally kind start size +
 unfoldable pub withField : List ℕ → Sheet → Kind → ℕ → ℕ → Sheet
 withField bytes sheet RefusedTag start size = sheet
 withField bytes sheet LabelField start size = withLabel sheet start size
-withField bytes sheet ModeField start size = withMode sheet (modeAt bytes start)
+withField bytes sheet ModeField start size = withMode sheet (modeAt bytes start size)
 withField bytes sheet RowField start size = withRow sheet (rowAt bytes start)
 withField bytes sheet TaskField start size = withTask sheet (taskAt bytes start)
 withField bytes sheet EndField start size = sheet

@@ -9,7 +9,7 @@ use Rattle.fields.specs.Deciding.{pick}
 use Rattle.fields.specs.Limits.{gapSize}
 use Rattle.fields.specs.Reading.{wordAt}
 use Rattle.fields.specs.Values.{noRow}
-use Rattle.sheet.specs.Values.{jobLength}
+use Rattle.modes.specs.Modes.{jobLength}
 use Rattle.fields.specs.declared.values.Mode.{Mode}
 use Rattle.fields.specs.declared.values.Row.{Row}
 use Rattle.fields.specs.declared.values.Task.{Task}

@@ -29,9 +29,12 @@ InRange speed = (1 ≤ speed .0) × (speed .0 ≤ rpmLimit)
 abbrev pub Positive : Ticks → Type 0
 Positive time = (1 ≤ time .0) × (time .0 ≤ longestTime)
 
+-- a mode's numbers are in range, and its fall-back is no higher than its boundary
 pub record ProperMode (mode : Mode) : Type 0 where
   pub boundary : InRange (mode .boundary)
   pub length : Positive (mode .length)
+  pub fallback : InRange (mode .fallback)
+  pub fallback-most : mode .fallback .0 ≤ mode .boundary .0
 
 -- a row among `rows`: its numbers are in range, its gaps stand in the file and are no shorter than its deadline, its followers exist
 pub record ProperRow (bytes : List ℕ) (rows : ℕ) (row : Row) : Type 0 where
@@ -58,5 +61,7 @@ pub record Proper (bytes : List ℕ) (sheet : Sheet) : Type 0 where
   pub each-row : (k : ℕ) → k < sheet .tally .rows → ProperRow bytes (sheet .tally .rows) (rowOf sheet k)
   pub each-task : (k : ℕ) → k < sheet .tally .tasks → ProperTask (getD (sheet .tasks) k noTask)
   pub boundaries-rise : (k : ℕ) → k + 1 < sheet .tally .modes → getD (sheet .modes) k noMode .boundary .0 < getD (sheet .modes) (k + 1) noMode .boundary .0
+  pub fallbacks-least : (k : ℕ) → k + 1 < sheet .tally .modes → getD (sheet .modes) k noMode .boundary .0 ≤ getD (sheet .modes) (k + 1) noMode .fallback .0
+  pub last-fallback : getD (sheet .modes) (sheet .tally .modes - 1) noMode .fallback .0 ≡ getD (sheet .modes) (sheet .tally .modes - 1) noMode .boundary .0
   pub speeds-rise : (k : ℕ) → k + 1 < sheet .tally .rows → rowOf sheet k .speed .0 < rowOf sheet (k + 1) .speed .0
   pub speeds-within : (k : ℕ) → k < sheet .tally .rows → rowOf sheet k .speed .0 ≤ getD (sheet .modes) (sheet .tally .modes - 1) noMode .boundary .0

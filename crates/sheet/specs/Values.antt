@@ -1,12 +1,7 @@
--- The values of a sheet: one field more, and the job length of a speed.
+-- The values of a sheet with one field more.
 use Prim.Native.Nat.{ℕ}
-use mathlib.Core.List.{List, [], _∷_}
 use lib.ListN.{set}
-use lib.Dec.{leb}
-use Rattle.fields.specs.Deciding.{pick}
 use Rattle.rules.specs.Counting.{countLabel, countMode, countRow, countTask}
-use Rattle.fields.specs.declared.units.Rpm.{Rpm}
-use Rattle.fields.specs.declared.units.Ticks.{Ticks}
 use Rattle.fields.specs.declared.values.Mode.{Mode}
 use Rattle.fields.specs.declared.values.Row.{Row}
 use Rattle.fields.specs.declared.values.Task.{Task}
@@ -28,7 +23,7 @@ abbrev pub withMode : Sheet → Mode → Sheet
 withMode sheet mode =
     record {
       label = sheet .label;
-      tally = countMode (sheet .tally) (mode .boundary);
+      tally = countMode (sheet .tally) mode;
       modes = set (sheet .modes) (sheet .tally .modes) mode;
       rows = sheet .rows;
       tasks = sheet .tasks;
@@ -55,8 +50,3 @@ withTask sheet task =
       rows = sheet .rows;
       tasks = set (sheet .tasks) (sheet .tally .tasks) task;
     }
-
--- the job length of a speed: that of the slowest mode that reaches it, 0 where none does; a boundary is still reached
-unfoldable pub jobLength : List Mode → Rpm → Ticks
-jobLength [] speed = record { 0 = 0 }
-jobLength (mode ∷ modes) speed = pick (leb (speed .0) (mode .boundary .0)) (mode .length) (jobLength modes speed)

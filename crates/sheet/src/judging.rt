@@ -27,8 +27,8 @@ ghost use mathlib.Core.Path.{_≡_};
 ghost use Prim.Native.Nat.{_+_, _*_, _<_, _≤_};
 ghost use lib.ListN.{length};
 ghost use Rattle.fields.specs.Deciding.{firstBroken};
-ghost use Rattle.fields.specs.Limits.{modeLimit, rowLimit, taskLimit, headSize, gapSize};
-ghost use Rattle.fields.specs.Reading.{modeAt, rowAt, taskAt};
+ghost use Rattle.fields.specs.Limits.{modeLimit, rowLimit, taskLimit, modeSize, headSize, gapSize};
+ghost use Rattle.fields.specs.Reading.{fallbackAt, modeAt, rowAt, taskAt};
 ghost use Rattle.rules.specs.Rules.{followerCount};
 ghost use Rattle.sheet.specs.Content.{gapShorter, rowGapRules};
 ghost use Rattle.sheet.specs.Values.{withLabel, withMode, withRow, withTask};
@@ -74,7 +74,7 @@ fn own_number(bytes: &[u8], tally: Tally, kind: Kind, start: usize, size: usize)
     match kind {
         Kind::RefusedTag => 0,
         Kind::LabelField => text_number(bytes, start, size),
-        Kind::ModeField => mode_number(tally, mode_at(bytes, start)),
+        Kind::ModeField => mode_number(tally, mode_at(bytes, start, size), size),
         Kind::RowField => row_gap_number(bytes, tally, row_at(bytes, start)),
         Kind::TaskField => task_number(task_at(bytes, start)),
         Kind::EndField => 0,
@@ -124,7 +124,7 @@ pub(crate) fn with_field(bytes: &[u8], sheet: Sheet, kind: Kind, start: usize, s
     match kind {
         Kind::RefusedTag => sheet,
         Kind::LabelField => with_label(sheet, start, size),
-        Kind::ModeField => with_mode(sheet, mode_at(bytes, start)),
+        Kind::ModeField => with_mode(sheet, mode_at(bytes, start, size)),
         Kind::RowField => with_row(sheet, row_at(bytes, start)),
         Kind::TaskField => with_task(sheet, task_at(bytes, start)),
         Kind::EndField => sheet,
@@ -159,16 +159,29 @@ fn gap_shorter(bytes: &[u8], place: usize, count: usize, bound: Ticks) -> bool
     false
 }
 
-fn mode_at(bytes: &[u8], start: usize) -> Mode
-    requires { ⌜ start + 4 ≤ length (now bytes) ⌝ }
-    ensures { λ r. ⌜ r ≡ modeAt (now (bytes .entry)) start ⌝ }
+fn mode_at(bytes: &[u8], start: usize, size: usize) -> Mode
+    requires { ⌜ start + modeSize ≤ length (now bytes) ⌝ }
+    ensures { λ r. ⌜ r ≡ modeAt (now (bytes .entry)) start size ⌝ }
 {
     let boundary = Rpm(word_at(bytes, start));
     let length = Ticks(word_at(bytes, start + 2));
+    let fallback = fallback_at(bytes, start, size);
     Mode {
         boundary: boundary,
         length: length,
+        fallback: fallback,
     }
+}
+
+// A field without a fall-back says that it is the boundary.
+fn fallback_at(bytes: &[u8], start: usize, size: usize) -> Rpm
+    requires { ⌜ start + modeSize ≤ length (now bytes) ⌝ }
+    ensures { λ r. ⌜ r ≡ fallbackAt (now (bytes .entry)) start size ⌝ }
+{
+    if size == Sheet::MODE {
+        return Rpm(word_at(bytes, start));
+    }
+    Rpm(word_at(bytes, start + Sheet::MODE))
 }
 
 fn row_at(bytes: &[u8], start: usize) -> Row
@@ -221,7 +234,7 @@ fn with_mode(sheet: Sheet, mode: Mode) -> Sheet
     let mut next = sheet;
     let number = sheet.tally.modes;
     next.modes[number] = mode;
-    let tally = count_mode(sheet.tally, mode.boundary);
+    let tally = count_mode(sheet.tally, mode);
     next.tally = tally;
     next
 }

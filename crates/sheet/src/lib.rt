@@ -1,6 +1,5 @@
 // The sheet judged: any bytes are accepted with their values, or refused by the first broken rule.
 mod judging;
-pub mod modes;
 
 use fields::reader::Step;
 use fields::reader::field_at;

@@ -2,7 +2,7 @@
 use fields::units::Ticks;
 use fields::values::Row;
 use fields::values::Sheet;
-use sheet::modes::job_length;
+use modes::job_length;
 ghost use mathlib.Core.Path.{_≡_};
 ghost use Prim.Native.Nat.{_+_, _*_, _^_, _≤_, _<_, max};
 ghost use lib.ListN.{length};

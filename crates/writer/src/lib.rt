@@ -4,8 +4,9 @@ use fields::values::Sheet;
 use putting::put_sheet;
 ghost use mathlib.Core.Path.{_≡_};
 ghost use Prim.Native.Nat.{_*_, _≤_};
+ghost use lib.ListN.{length};
 ghost use Rattle.fields.specs.Limits.{modeLimit, rowLimit, taskLimit, labelLimit};
-ghost use Rattle.written.specs.Judging.{sheetSize};
+ghost use Rattle.written.specs.Judging.{bandCount, sheetSize};
 ghost use Rattle.written.specs.Values.{valuesFrom};
 ghost use Rattle.writer.specs.Calls.{WriteCall};
 ghost use Rattle.writer.specs.declared.WriteAnswer.the-variants.{Refused};
@@ -21,6 +22,7 @@ pub fn write(
     label: &[u8],
     boundaries: &[u16],
     lengths: &[u16],
+    fallbacks: &[u16],
     speeds: &[u16],
     deadlines: &[u16],
     sets: &[u64],
@@ -30,12 +32,13 @@ pub fn write(
     task_deadlines: &[u16],
     output: &mut [u8],
 ) -> WriteAnswer
-    ensures { λ r. ⌜ WriteCall (valuesFrom (now (label .entry)) (now (boundaries .entry)) (now (lengths .entry)) (now (speeds .entry)) (now (deadlines .entry)) (now (sets .entry)) (now (gaps .entry)) (now («task_lengths» .entry)) (now («task_periods» .entry)) (now («task_deadlines» .entry))) (now (output .entry)) r (now (output .exit)) ⌝ }
+    ensures { λ r. ⌜ WriteCall (valuesFrom (now (label .entry)) (now (boundaries .entry)) (now (lengths .entry)) (now (fallbacks .entry)) (now (speeds .entry)) (now (deadlines .entry)) (now (sets .entry)) (now (gaps .entry)) (now («task_lengths» .entry)) (now («task_periods» .entry)) (now («task_deadlines» .entry))) (now (output .entry)) r (now (output .exit)) ⌝ }
 {
     let number = values_number(
         label,
         boundaries,
         lengths,
+        fallbacks,
         speeds,
         deadlines,
         sets,
@@ -50,6 +53,7 @@ pub fn write(
     let size = size_of(
         label.len(),
         boundaries.len(),
+        bands(boundaries, fallbacks),
         speeds.len(),
         gaps.len(),
         task_lengths.len(),
@@ -62,6 +66,7 @@ pub fn write(
         label,
         boundaries,
         lengths,
+        fallbacks,
         speeds,
         deadlines,
         sets,
@@ -83,10 +88,39 @@ fn refused(number: u8) -> WriteAnswer
     }
 }
 
-// How many bytes a sheet has: each field has three before its content, and the end field has no more.
-fn size_of(label: usize, modes: usize, rows: usize, gaps: usize, tasks: usize) -> usize
-    requires { ⌜ (label ≤ labelLimit) × (modes ≤ modeLimit) × (rows ≤ rowLimit) × (gaps ≤ rowLimit * rowLimit) × (tasks ≤ taskLimit) ⌝ }
-    ensures { λ r. ⌜ r ≡ sheetSize label modes rows gaps tasks ⌝ }
+// How many modes have a band: a fall-back that is not the boundary.
+fn bands(boundaries: &[u16], fallbacks: &[u16]) -> usize
+    requires { ⌜ length (now boundaries) ≡ length (now fallbacks) ⌝ }
+    ensures { λ r. ⌜ r ≡ bandCount (now (boundaries .entry)) (now (fallbacks .entry)) ⌝ }
 {
-    6 + label + 7 * modes + (3 + Sheet::HEAD) * rows + Sheet::GAP * gaps + 9 * tasks
+    let mut count: usize = 0;
+    let mut number: usize = 0;
+    while number < boundaries.len() {
+        if fallbacks[number] != boundaries[number] {
+            count += 1;
+        }
+        number += 1;
+    }
+    count
+}
+
+// How many bytes a sheet has: each field has three before its content, and the end field has no more.
+fn size_of(
+    label: usize,
+    modes: usize,
+    bands: usize,
+    rows: usize,
+    gaps: usize,
+    tasks: usize,
+) -> usize
+    requires { ⌜ (label ≤ labelLimit) × (modes ≤ modeLimit) × (bands ≤ modeLimit) × (rows ≤ rowLimit) × (gaps ≤ rowLimit * rowLimit) × (tasks ≤ taskLimit) ⌝ }
+    ensures { λ r. ⌜ r ≡ sheetSize label modes bands rows gaps tasks ⌝ }
+{
+    6
+        + label
+        + (3 + Sheet::MODE) * modes
+        + Sheet::FALLBACK * bands
+        + (3 + Sheet::HEAD) * rows
+        + Sheet::GAP * gaps
+        + 9 * tasks
 }

@@ -16,7 +16,7 @@ flatWritten (Refused number place) = record { number = number; place = place; si
 
 -- a mode, a row and a fixed task as numbers
 abbrev pub flatMode : Mode → ModeForC
-flatMode mode = record { boundary = mode .boundary .0; length = mode .length .0 }
+flatMode mode = record { boundary = mode .boundary .0; length = mode .length .0; fallback = mode .fallback .0 }
 
 abbrev pub flatRow : RowValues → RowForC
 flatRow row = record { speed = row .speed .0; deadline = row .deadline .0; followers = row .followers; length = row .length .0 }

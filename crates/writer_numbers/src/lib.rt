@@ -18,6 +18,7 @@ pub struct WriteForC {
 pub struct ModeForC {
     pub boundary: u16,
     pub length: u16,
+    pub fallback: u16,
 }
 
 #[repr(C)]
@@ -58,6 +59,7 @@ pub fn mode_numbers(mode: Mode) -> ModeForC
     ModeForC {
         boundary: mode.boundary.0,
         length: mode.length.0,
+        fallback: mode.fallback.0,
     }
 }
 

@@ -2,17 +2,23 @@
 use Prim.Native.Nat.{ℕ, _+_, _≤_}
 use native.Mathlib.Omega.{arith}
 use mathlib.Core.Path.{_≡_, _∙_, refl, sym, ap}
+use mathlib.Core.Logic.{⊎-elim}
 use mathlib.Core.List.{List, [], _∷_, _++_}
 use mathlib.Core.Bool.{true, false, true≢false}
+use lib.Dec.{eqb}
 use lib.ListN.{length, take, drop, length-drop, take-append-drop}
 use lib.Seq.{length-take-le}
+use borrow.Author.Tests.{eq-eqb}
+use Rattle.meaning.proofs.Tests.{bool-or}
 use Rattle.fields.specs.Deciding.{Rule, _when_, pick, firstBroken}
 use Rattle.fields.specs.Fields.{lineOf, fields, kindOf}
-use Rattle.fields.specs.Reading.{modeAt, rowAt, taskAt}
-use Rattle.fields.specs.Values.{emptySheet}
-use Rattle.rules.specs.Rules.{outOfOrder, wrongLength, full, unknownFollower, commonRules, textRules}
+use Rattle.fields.specs.Reading.{wordAt, modeAt, rowAt, taskAt}
+use Rattle.fields.specs.Limits.{modeSize}
+use Rattle.fields.specs.Values.{emptySheet, shortSize}
+use Rattle.rules.specs.Rules.{outOfOrder, wrongLength, full, unknownFollower, badFallback, commonRules, textRules, modeRules}
 use Rattle.sheet.specs.Judging.{refusal, headRules, ownRules, fieldRules, withField, checked, judged}
 use Rattle.sheet.specs.Proper.{Bytes}
+use Rattle.fields.specs.declared.values.Tally.{Tally}
 use Rattle.fields.specs.declared.values.Sheet.{Sheet}
 use Rattle.sheet.specs.declared.Answer.the-variants.{Accepted}
 use Rattle.sheet.specs.declared.Judged.{Judged}
@@ -28,8 +34,9 @@ use Rattle.written.proofs.Columns.{values-entries}
 use Rattle.written.proofs.Entered.{InOrder, Entered, empty-in-order, none-entered, label-before, with-label, with-mode, with-row, with-task}
 use Rattle.written.proofs.EntriesKept.{rules-both, count-both}
 use Rattle.written.proofs.EntryFields.{entry-judged}
-use Rattle.written.proofs.FieldBytes.{mode-content, row-content, task-content}
+use Rattle.written.proofs.FieldBytes.{row-content, task-content}
 use Rattle.written.proofs.JudgedWritten.{unknown-alike, accepted-written}
+use Rattle.written.proofs.ModeNumbers.{short-right}
 use Rattle.written.proofs.Named.{Named}
 use Rattle.written.proofs.Sheets.{rowEntry, entrySheet, entriesIn}
 
@@ -80,6 +87,27 @@ module _ (bytes : List ℕ) (fit : Bytes bytes) where
       leaves-kept 0 (entryRules (sheet .tally) entry) (entrySheet start sheet entry)
       (ap (λ (said : Judged). said .answer) (sym (rw long at judged-as) ∙ field-judged))
 
+  -- in the shorter form a fall-back that is the boundary is not judged
+  short-fallback : (tally : Tally) (start size : ℕ) → let mode = modeAt bytes start size in badFallback tally mode size ≡ false → badFallback tally mode (shortSize mode) ≡ false
+  unfolding badFallback shortSize pick
+  short-fallback tally start size kept =
+      ⊎-elim
+      (λ (e : eqb size modeSize ≡ true). let same : eqb (wordAt bytes start) (wordAt bytes start) ≡ true = eq-eqb (wordAt bytes start) (wordAt bytes start) refl in rw (e, same) refl)
+      (λ (e : eqb size modeSize ≡ false).
+      ⊎-elim
+      (λ (same : eqb (wordAt bytes (start + modeSize)) (wordAt bytes start) ≡ true). rw (e, same) refl)
+      (λ (other : eqb (wordAt bytes (start + modeSize)) (wordAt bytes start) ≡ false). rw (e, other) (rw e at kept))
+      (bool-or (eqb (wordAt bytes (start + modeSize)) (wordAt bytes start))))
+      (bool-or (eqb size modeSize))
+
+  -- so its entry keeps its own rules
+  mode-kept : (sheet : Sheet) (start size : ℕ) → let mode = modeAt bytes start size in
+      Kept (commonRules 2 (sheet .tally .last) size false (sheet .tally .modes)) → Kept (modeRules (sheet .tally) mode size) → Kept (entryRules (sheet .tally) (ModeEntry mode))
+  unfolding entryRules commonRules modeRules
+  mode-kept sheet start size head own =
+      let mode = modeAt bytes start size in
+      (head .0, (short-right mode, (head .1 .1 .0, (head .1 .1 .1 .0, (own .0, (own .1 .0, (short-fallback (sheet .tally) start size (own .1 .1 .0), own .1 .1 .1)))))))
+
   -- one field more
   one-more : (sheet : Sheet) (entry : Entry) (grown : Sheet) → SoFar sheet → Entered bytes sheet entry grown → countEntry (sheet .tally) entry ≡ grown .tally
       → Kept (entryRules (sheet .tally) entry) → SoFar grown
@@ -124,10 +152,7 @@ module _ (bytes : List ℕ) (fit : Bytes bytes) where
             let entry = LabelEntry (take size (drop start bytes)) in
             one-more sheet entry _ p (with-label bytes sheet (p .order) size _ start common) refl (entry-kept sheet start size entry tt inside refl common (own, tt));
         mode = λ sheet at start size next e p common own.
-            let inside : start + size ≤ length bytes = omega (arith, field-in bytes at _ start size next e) in
-            let entry = ModeEntry (modeAt bytes start) in
-            let content = mode-content bytes fit start size inside (common-says _ _ _ _ _ common .1) in
-            one-more sheet entry _ p (with-mode bytes sheet (p .order) size _ (modeAt bytes start) common) refl (entry-kept sheet start size entry tt inside content common own);
+            one-more sheet (ModeEntry (modeAt bytes start size)) _ p (with-mode bytes sheet (p .order) size _ (modeAt bytes start size) common) refl (mode-kept sheet start size common own);
         row = λ sheet at start size next e p common own.
             let inside : start + size ≤ length bytes = omega (arith, field-in bytes at _ start size next e) in
             let entry = rowEntry bytes (rowAt bytes start) in

@@ -28,7 +28,8 @@ words-count bytes at zero = refl
 words-count bytes at (suc count) = ap suc (words-count bytes (at + 2) count)
 
 -- the modes, rows and tasks that were read
-modes-entries : (modes : List Mode) → modeEntries (map (λ mode. mode .boundary .0) modes) (map (λ mode. mode .length .0) modes) ≡ map ModeEntry modes
+modes-entries : (modes : List Mode)
+    → modeEntries (map (λ mode. mode .boundary .0) modes) (map (λ mode. mode .length .0) modes) (map (λ mode. mode .fallback .0) modes) ≡ map ModeEntry modes
 unfolding modeEntries
 modes-entries [] = refl
 modes-entries (mode ∷ modes) = ap (λ (l : List Entry). ModeEntry mode ∷ l) (modes-entries modes)
@@ -71,22 +72,22 @@ Whole (entry ∷ more) = Uncut entry × Whole more
 -- the columns with what an entry puts in front of them
 unfoldable pub inFront : Entry → Values → Values
 inFront (LabelEntry text) values =
-    valuesFrom text (values .boundaries) (values .lengths) (values .speeds) (values .deadlines) (values .sets) (values .gaps) (values .taskLengths) (values .taskPeriods) (values .taskDeadlines)
+    valuesFrom text (values .boundaries) (values .lengths) (values .fallbacks) (values .speeds) (values .deadlines) (values .sets) (values .gaps) (values .taskLengths) (values .taskPeriods) (values .taskDeadlines)
 inFront (ModeEntry mode) values =
-    valuesFrom (values .label) (mode .boundary .0 ∷ values .boundaries) (mode .length .0 ∷ values .lengths)
+    valuesFrom (values .label) (mode .boundary .0 ∷ values .boundaries) (mode .length .0 ∷ values .lengths) (mode .fallback .0 ∷ values .fallbacks)
     (values .speeds) (values .deadlines) (values .sets) (values .gaps) (values .taskLengths) (values .taskPeriods) (values .taskDeadlines)
 inFront (RowEntry speed deadline followers gaps) values =
-    valuesFrom (values .label) (values .boundaries) (values .lengths)
+    valuesFrom (values .label) (values .boundaries) (values .lengths) (values .fallbacks)
     (speed .0 ∷ values .speeds) (deadline .0 ∷ values .deadlines) (followers ∷ values .sets) (gaps ++ values .gaps)
     (values .taskLengths) (values .taskPeriods) (values .taskDeadlines)
 inFront (TaskEntry task) values =
-    valuesFrom (values .label) (values .boundaries) (values .lengths) (values .speeds) (values .deadlines) (values .sets) (values .gaps)
+    valuesFrom (values .label) (values .boundaries) (values .lengths) (values .fallbacks) (values .speeds) (values .deadlines) (values .sets) (values .gaps)
     (task .length .0 ∷ values .taskLengths) (task .period .0 ∷ values .taskPeriods) (task .deadline .0 ∷ values .taskDeadlines)
 inFront (CutEntry tag) values = values
 
 -- the columns of entries
 unfoldable pub columns : List Entry → Values
-columns [] = valuesFrom [] [] [] [] [] [] [] [] [] []
+columns [] = valuesFrom [] [] [] [] [] [] [] [] [] [] []
 columns (entry ∷ more) = inFront entry (columns more)
 
 -- where entries keep the rules, whatever was counted before, none is cut and their columns are these values
@@ -108,7 +109,7 @@ one-more entry more values uncut told tally kept =
     ((uncut, rest .0), ap (inFront entry) (rest .1))
 
 -- tasks alone
-task-columns : (lengths periods deadlines : List ℕ) → Telling (taskEntries lengths periods deadlines) (valuesFrom [] [] [] [] [] [] [] lengths periods deadlines)
+task-columns : (lengths periods deadlines : List ℕ) → Telling (taskEntries lengths periods deadlines) (valuesFrom [] [] [] [] [] [] [] [] lengths periods deadlines)
 unfolding taskEntries columns inFront lineOf fields
 task-columns [] [] [] tally kept = (tt, refl)
 task-columns [] [] (deadline ∷ deadlines) tally kept = absurd (cut-broken 4 _ tally (omega arith) kept)
@@ -120,9 +121,9 @@ task-columns (length ∷ lengths) (period ∷ periods) (deadline ∷ deadlines) 
     one-more entry _ _ tt (task-columns lengths periods deadlines) tally kept
 
 -- rows in front of entries that have none
-module _ (more : List Entry) (taskLengths taskPeriods taskDeadlines : List ℕ) (told : Telling more (valuesFrom [] [] [] [] [] [] [] taskLengths taskPeriods taskDeadlines)) where
+module _ (more : List Entry) (taskLengths taskPeriods taskDeadlines : List ℕ) (told : Telling more (valuesFrom [] [] [] [] [] [] [] [] taskLengths taskPeriods taskDeadlines)) where
   row-columns : (speeds deadlines sets gaps : List ℕ)
-      → Telling (rowEntries speeds deadlines sets gaps ++ more) (valuesFrom [] [] [] speeds deadlines sets gaps taskLengths taskPeriods taskDeadlines)
+      → Telling (rowEntries speeds deadlines sets gaps ++ more) (valuesFrom [] [] [] [] speeds deadlines sets gaps taskLengths taskPeriods taskDeadlines)
   unfolding rowEntries inFront lineOf fields
   row-columns [] [] [] [] tally kept = told tally kept
   row-columns [] [] [] (gap ∷ gaps) tally kept = absurd (cut-broken 3 _ tally (omega arith) kept)
@@ -134,21 +135,23 @@ module _ (more : List Entry) (taskLengths taskPeriods taskDeadlines : List ℕ) 
       let count = followerCount followers in
       let entry = RowEntry (record { 0 = speed }) (record { 0 = deadline }) followers (take count gaps) in
       let all = one-more entry _ _ tt (row-columns speeds deadlines sets (drop count gaps)) tally kept in
-      let with-gaps : List ℕ → Values = λ own. valuesFrom [] [] [] (speed ∷ speeds) (deadline ∷ deadlines) (followers ∷ sets) own taskLengths taskPeriods taskDeadlines in
+      let with-gaps : List ℕ → Values = λ own. valuesFrom [] [] [] [] (speed ∷ speeds) (deadline ∷ deadlines) (followers ∷ sets) own taskLengths taskPeriods taskDeadlines in
       (all .0, all .1 ∙ ap with-gaps (take-append-drop count gaps))
 
 -- modes in front of entries that have none
 module _ (more : List Entry) (speeds deadlines sets gaps taskLengths taskPeriods taskDeadlines : List ℕ)
-    (told : Telling more (valuesFrom [] [] [] speeds deadlines sets gaps taskLengths taskPeriods taskDeadlines)) where
-  mode-columns : (boundaries lengths : List ℕ)
-      → Telling (modeEntries boundaries lengths ++ more) (valuesFrom [] boundaries lengths speeds deadlines sets gaps taskLengths taskPeriods taskDeadlines)
+    (told : Telling more (valuesFrom [] [] [] [] speeds deadlines sets gaps taskLengths taskPeriods taskDeadlines)) where
+  mode-columns : (boundaries lengths fallbacks : List ℕ)
+      → Telling (modeEntries boundaries lengths fallbacks ++ more) (valuesFrom [] boundaries lengths fallbacks speeds deadlines sets gaps taskLengths taskPeriods taskDeadlines)
   unfolding modeEntries inFront lineOf fields
-  mode-columns [] [] tally kept = told tally kept
-  mode-columns [] (length ∷ lengths) tally kept = absurd (cut-broken 2 _ tally (omega arith) kept)
-  mode-columns (boundary ∷ boundaries) [] tally kept = absurd (cut-broken 2 _ tally (omega arith) kept)
-  mode-columns (boundary ∷ boundaries) (length ∷ lengths) tally kept =
-      let entry = ModeEntry (record { boundary = record { 0 = boundary }; length = record { 0 = length } }) in
-      one-more entry _ _ tt (mode-columns boundaries lengths) tally kept
+  mode-columns [] [] [] tally kept = told tally kept
+  mode-columns [] [] (fallback ∷ fallbacks) tally kept = absurd (cut-broken 2 _ tally (omega arith) kept)
+  mode-columns [] (length ∷ lengths) fallbacks tally kept = absurd (cut-broken 2 _ tally (omega arith) kept)
+  mode-columns (boundary ∷ boundaries) [] fallbacks tally kept = absurd (cut-broken 2 _ tally (omega arith) kept)
+  mode-columns (boundary ∷ boundaries) (length ∷ lengths) [] tally kept = absurd (cut-broken 2 _ tally (omega arith) kept)
+  mode-columns (boundary ∷ boundaries) (length ∷ lengths) (fallback ∷ fallbacks) tally kept =
+      let entry = ModeEntry (record { boundary = record { 0 = boundary }; length = record { 0 = length }; fallback = record { 0 = fallback } }) in
+      one-more entry _ _ tt (mode-columns boundaries lengths fallbacks) tally kept
 
 -- values that keep the rules have no cut entry, and the columns of their entries are the values
 pub entries-columns : (values : Values) (tally : Tally) → Kept (entriesRules tally (entries values)) → Whole (entries values) × (columns (entries values) ≡ values)
@@ -156,7 +159,7 @@ unfolding entries inFront
 entries-columns values =
     let tasks = task-columns (values .taskLengths) (values .taskPeriods) (values .taskDeadlines) in
     let rows = row-columns _ _ _ _ tasks (values .speeds) (values .deadlines) (values .sets) (values .gaps) in
-    one-more (LabelEntry (values .label)) _ _ tt (mode-columns _ _ _ _ _ _ _ _ rows (values .boundaries) (values .lengths))
+    one-more (LabelEntry (values .label)) _ _ tt (mode-columns _ _ _ _ _ _ _ _ rows (values .boundaries) (values .lengths) (values .fallbacks))
 
 -- and so their entries tell them apart
 pub entries-tell : (one other : Values) (tally : Tally) → Kept (entriesRules tally (entries other)) → entries one ≡ entries other → one ≡ other

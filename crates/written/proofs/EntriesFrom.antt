@@ -11,7 +11,7 @@ use Rattle.rules.specs.Rules.{followerCount}
 use Rattle.written.specs.Values.{Entry, ModeEntry, RowEntry, TaskEntry, CutEntry, modeEntries, rowEntries, taskEntries}
 
 -- a column that reaches past a place: the number there, and those behind
-number-there : (at : ℕ) (column : List ℕ) → at < length column → drop at column ≡ getD column at 0 ∷ drop (at + 1) column
+pub number-there : (at : ℕ) (column : List ℕ) → at < length column → drop at column ≡ getD column at 0 ∷ drop (at + 1) column
 number-there at column more = rw (add-one, drop-cons column at 0 more) refl
 
 -- where a number is left of a column, it reaches past the place, and where none is left, it does not
@@ -22,37 +22,42 @@ none-left : (at : ℕ) (column : List ℕ) → length (drop at column) ≤ 0 →
 none-left at column none = omega (arith, length-drop at column)
 
 -- the mode at a place, and the modes from it on
-abbrev pub modeAmong : List ℕ → List ℕ → ℕ → Entry
-modeAmong boundaries lengths at = ModeEntry (record { boundary = record { 0 = getD boundaries at 0 }; length = record { 0 = getD lengths at 0 } })
+abbrev pub modeAmong : List ℕ → List ℕ → List ℕ → ℕ → Entry
+modeAmong boundaries lengths fallbacks at =
+    ModeEntry (record { boundary = record { 0 = getD boundaries at 0 }; length = record { 0 = getD lengths at 0 }; fallback = record { 0 = getD fallbacks at 0 } })
 
-abbrev pub modesFrom : List ℕ → List ℕ → ℕ → List Entry
-modesFrom boundaries lengths at = modeEntries (drop at boundaries) (drop at lengths)
+abbrev pub modesFrom : List ℕ → List ℕ → List ℕ → ℕ → List Entry
+modesFrom boundaries lengths fallbacks at = modeEntries (drop at boundaries) (drop at lengths) (drop at fallbacks)
 
 -- modes whose columns part at once: a field without content
-modes-cut : (boundaries lengths : List ℕ) → (0 < length boundaries → 0 < length lengths → ⊥) → (length boundaries ≤ 0 → length lengths ≤ 0 → ⊥)
-    → modeEntries boundaries lengths ≡ CutEntry 2 ∷ []
+modes-cut : (boundaries lengths fallbacks : List ℕ) → (0 < length boundaries → 0 < length lengths → 0 < length fallbacks → ⊥)
+    → (length boundaries ≤ 0 → length lengths ≤ 0 → length fallbacks ≤ 0 → ⊥) → modeEntries boundaries lengths fallbacks ≡ CutEntry 2 ∷ []
 unfolding modeEntries
-modes-cut [] [] no-more some-more = absurd (some-more (omega arith) (omega arith))
-modes-cut [] (length ∷ lengths) no-more some-more = refl
-modes-cut (boundary ∷ boundaries) [] no-more some-more = refl
-modes-cut (boundary ∷ boundaries) (length ∷ lengths) no-more some-more = absurd (no-more (omega arith) (omega arith))
+modes-cut [] [] [] no-more some-more = absurd (some-more (omega arith) (omega arith) (omega arith))
+modes-cut [] [] (fallback ∷ fallbacks) no-more some-more = refl
+modes-cut [] (length ∷ lengths) fallbacks no-more some-more = refl
+modes-cut (boundary ∷ boundaries) [] fallbacks no-more some-more = refl
+modes-cut (boundary ∷ boundaries) (length ∷ lengths) [] no-more some-more = refl
+modes-cut (boundary ∷ boundaries) (length ∷ lengths) (fallback ∷ fallbacks) no-more some-more = absurd (no-more (omega arith) (omega arith) (omega arith))
 
-module _ (boundaries lengths : List ℕ) (at : ℕ) where
+module _ (boundaries lengths fallbacks : List ℕ) (at : ℕ) where
   -- the next mode and those behind it
-  pub modes-next : at < length boundaries → at < length lengths → modesFrom boundaries lengths at ≡ modeAmong boundaries lengths at ∷ modesFrom boundaries lengths (at + 1)
+  pub modes-next : at < length boundaries → at < length lengths → at < length fallbacks
+      → modesFrom boundaries lengths fallbacks at ≡ modeAmong boundaries lengths fallbacks at ∷ modesFrom boundaries lengths fallbacks (at + 1)
   unfolding modeEntries
-  modes-next one other = rw (number-there at boundaries one, number-there at lengths other) refl
+  modes-next one other last = rw (number-there at boundaries one, number-there at lengths other, number-there at fallbacks last) refl
 
-  -- none, where both columns end
-  pub modes-end : length boundaries ≤ at → length lengths ≤ at → modesFrom boundaries lengths at ≡ []
+  -- none, where all columns end
+  pub modes-end : length boundaries ≤ at → length lengths ≤ at → length fallbacks ≤ at → modesFrom boundaries lengths fallbacks at ≡ []
   unfolding modeEntries
-  modes-end one other = rw (drop-of-length-le boundaries {i = at} one, drop-of-length-le lengths {i = at} other) refl
+  modes-end one other last = rw (drop-of-length-le boundaries {i = at} one, drop-of-length-le lengths {i = at} other, drop-of-length-le fallbacks {i = at} last) refl
 
   -- a field without content, where they part
-  pub modes-part : (at < length boundaries → at < length lengths → ⊥) → (length boundaries ≤ at → length lengths ≤ at → ⊥) → modesFrom boundaries lengths at ≡ CutEntry 2 ∷ []
+  pub modes-part : (at < length boundaries → at < length lengths → at < length fallbacks → ⊥) → (length boundaries ≤ at → length lengths ≤ at → length fallbacks ≤ at → ⊥)
+      → modesFrom boundaries lengths fallbacks at ≡ CutEntry 2 ∷ []
   modes-part no-more some-more =
-      modes-cut (drop at boundaries) (drop at lengths) (λ one other. no-more (left at boundaries one) (left at lengths other))
-      (λ one other. some-more (none-left at boundaries one) (none-left at lengths other))
+      modes-cut (drop at boundaries) (drop at lengths) (drop at fallbacks) (λ one other last. no-more (left at boundaries one) (left at lengths other) (left at fallbacks last))
+      (λ one other last. some-more (none-left at boundaries one) (none-left at lengths other) (none-left at fallbacks last))
 
 -- the fixed task at a place, and those from it on
 abbrev pub taskAmong : List ℕ → List ℕ → List ℕ → ℕ → Entry

@@ -9,6 +9,7 @@ use lib.ListN.{length}
 use Rattle.fields.specs.Deciding.{Rule, _when_, pick, firstBroken}
 use Rattle.fields.specs.Fields.{lineOf, fields}
 use Rattle.fields.specs.Limits.{modeLimit, rowLimit, taskLimit, labelLimit}
+use Rattle.fields.specs.Values.{shortSize}
 use Rattle.rules.specs.Rules.{outOfOrder, followerCount, commonRules, textRules, rowRules}
 use Rattle.fields.specs.declared.units.Rpm.{Rpm}
 use Rattle.fields.specs.declared.units.Ticks.{Ticks}
@@ -25,7 +26,7 @@ use Rattle.written.proofs.FieldBytes.{short-enough}
 pub entry-numbered : (tally : Tally) (entry : Entry) → T (numbered (entryRules tally entry))
 unfolding entryRules commonRules textRules rowRules
 entry-numbered tally (LabelEntry text) = tt
-entry-numbered tally (ModeEntry mode) = mode-numbered tally mode
+entry-numbered tally (ModeEntry mode) = mode-numbered tally mode (shortSize mode)
 entry-numbered tally (RowEntry speed deadline followers gaps) = tt
 entry-numbered tally (TaskEntry task) = task-numbered task
 entry-numbered tally (CutEntry tag) = tt

@@ -4,13 +4,17 @@ use native.Mathlib.Nat.{div-add-mod', zero-add}
 use native.Mathlib.Omega.{arith}
 use mathlib.Core.Path.{_≡_, _∙_, refl, sym, ap}
 use mathlib.Core.List.{List, [], _∷_, _++_}
-use mathlib.Core.Bool.{false}
-use lib.Dec.{ltb}
+use mathlib.Core.Bool.{true, false}
+use mathlib.Core.Logic.{⊎-elim}
+use lib.Dec.{ltb, eqb}
 use lib.ListN.{length, getD, drop, List·getD-append}
+use borrow.Author.Tests.{eqb-true}
+use Rattle.meaning.proofs.Tests.{bool-or}
 use Rattle.fields.specs.Deciding.{pick}
 use Rattle.fields.specs.Fields.{kindOf, lineOf, fields}
 use Rattle.fields.specs.Limits.{headSize, gapSize}
-use Rattle.fields.specs.Reading.{wordAt, longAt, modeAt, taskAt}
+use Rattle.fields.specs.Reading.{wordAt, longAt, fallbackAt, modeAt, taskAt}
+use Rattle.fields.specs.Values.{shortSize}
 use Rattle.rules.specs.Rules.{unlikeSet, followerCount, wrongLength, badByte, badText, commonRules, textRules, modeRules, rowRules, taskRules}
 use Rattle.sheet.specs.Content.{gapShorter, rowGapRules}
 use Rattle.sheet.specs.Judging.{headRules, ownRules, fieldRules, withField, checked}
@@ -28,8 +32,9 @@ use Rattle.fields.proofs.Deciding.{all-kept}
 use Rattle.sheet.proofs.Numbered.{common-numbered, common-says, row-length}
 use Rattle.written.specs.Judging.{rowSize, oneShorter, entryRules}
 use Rattle.written.specs.Values.{Entry, LabelEntry, ModeEntry, RowEntry, TaskEntry, CutEntry}
-use Rattle.written.specs.Written.{words, tagOf, contentOf}
+use Rattle.written.specs.Written.{words, modeNumbers, tagOf, contentOf}
 use Rattle.written.proofs.Alike.{any-alike, checked-alike, checked-both}
+use Rattle.written.proofs.ModeNumbers.{mode-long}
 use Rattle.written.proofs.Here.{byte-here, on-here, word-here}
 use Rattle.written.proofs.Named.{Parted, modes-part, rows-part, tasks-part, Named}
 use Rattle.written.proofs.Sheets.{entrySheet}
@@ -68,12 +73,30 @@ module _ (bytes : List ℕ) (start : ℕ) (rest : List ℕ) where
       any-alike (λ k. badByte (getD bytes k 0)) (λ k. badByte (getD text k 0)) start 0 (length text)
       (λ j h. rw zero-add (ap badByte (byte-here bytes start j _ e ∙ List·getD-append text rest 0 j h)))
 
-  mode-here : (mode : Mode) → drop start bytes ≡ contentOf (ModeEntry mode) ++ rest → modeAt bytes start ≡ mode
-  unfolding contentOf words
-  mode-here mode e =
-      let boundary : wordAt bytes start ≡ mode .boundary .0 = word-here bytes start _ _ e in
-      let long : wordAt bytes (start + 2) ≡ mode .length .0 = word-here bytes (start + 2) _ _ (on-here bytes start 2 _ e) in
-      rw (boundary, long) refl
+  -- a mode's boundary and length, and its fall-back where the field has one
+  module _ (mode : Mode) (e : drop start bytes ≡ contentOf (ModeEntry mode) ++ rest) where
+    boundary-here : wordAt bytes start ≡ mode .boundary .0
+    unfolding contentOf modeNumbers words
+    boundary-here = word-here bytes start _ _ e
+
+    length-here : wordAt bytes (start + 2) ≡ mode .length .0
+    unfolding contentOf modeNumbers words
+    length-here = word-here bytes (start + 2) _ _ (on-here bytes start 2 _ e)
+
+    fallback-here : fallbackAt bytes start (shortSize mode) ≡ mode .fallback
+    unfolding contentOf modeNumbers words shortSize pick
+    fallback-here =
+        ⊎-elim
+        (λ (same : eqb (mode .fallback .0) (mode .boundary .0) ≡ true).
+        let whole : mode .fallback .0 ≡ mode .boundary .0 = eqb-true _ _ same in
+        rw (same, boundary-here, ← whole) refl)
+        (λ (other : eqb (mode .fallback .0) (mode .boundary .0) ≡ false).
+        let last : wordAt bytes (start + 4) ≡ mode .fallback .0 = word-here bytes (start + 4) _ _ (on-here bytes start 4 _ (rw other at e)) in
+        rw (other, last) refl)
+        (bool-or (eqb (mode .fallback .0) (mode .boundary .0)))
+
+    mode-here : modeAt bytes start (shortSize mode) ≡ mode
+    mode-here = rw (fallback-here, boundary-here, length-here) refl
 
   task-here : (task : Task) → drop start bytes ≡ contentOf (TaskEntry task) ++ rest → taskAt bytes start ≡ task
   unfolding contentOf words
@@ -144,8 +167,9 @@ module _ (bytes : List ℕ) (place start : ℕ) (rest : List ℕ) where
   unfolding headRules ownRules textRules withField entryRules entrySheet tagOf contentOf words pick
   entry-judged (LabelEntry text) named e sheet ok = rw (text-here bytes start rest text e) refl
   entry-judged (ModeEntry mode) named e sheet ok =
-      ap (λ read. checked place (commonRules 2 (sheet .tally .last) 4 false (sheet .tally .modes) ++ modeRules (sheet .tally) read) (ok (withMode sheet read)))
-      (mode-here bytes start rest mode e)
+      rw (mode-long mode)
+      (ap (λ read. checked place (commonRules 2 (sheet .tally .last) (shortSize mode) false (sheet .tally .modes) ++ modeRules (sheet .tally) read (shortSize mode)) (ok (withMode sheet read)))
+      (mode-here bytes start rest mode e))
   entry-judged (RowEntry speed deadline followers gaps) named e sheet ok = row-judged bytes start rest speed deadline followers gaps e place sheet ok
   entry-judged (TaskEntry task) named e sheet ok =
       ap (λ read. checked place (commonRules 4 (sheet .tally .last) 6 false (sheet .tally .tasks) ++ taskRules read) (ok (withTask sheet read)))

@@ -3,15 +3,17 @@ use Prim.Native.Nat.{ℕ, zero, suc, _+_, _-_, _*_, _/_, _%_, _≤_, _<_}
 use native.Mathlib.Numerals.{add-one}
 use native.Mathlib.Omega.{arith}
 use mathlib.Core.Path.{_≡_, _∙_, refl, ap, ap₂}
+use mathlib.Core.Logic.{⊎-elim}
 use mathlib.Core.List.{List, [], _∷_}
-use mathlib.Core.Bool.{Bool, true, false}
+use mathlib.Core.Bool.{Bool, true, false, not}
 use lib.Dec.{ltb, eqb}
 use lib.ListN.{length, getD, take, drop, length-drop}
 use lib.Seq.{drop-cons, length-take-le}
-use borrow.Author.Tests.{ltb-false, eqb-true}
+use borrow.Author.Tests.{ltb-false, eqb-true, eqb-false, eq-eqb, not-false}
+use Rattle.meaning.proofs.Tests.{bool-or}
 use Rattle.fields.specs.Deciding.{Rule, _when_, pick, judgedBy}
 use Rattle.fields.specs.Fields.{lineOf, fields, kindOf, isRefused}
-use Rattle.fields.specs.Limits.{headSize, gapSize}
+use Rattle.fields.specs.Limits.{modeSize, fallbackSize, headSize, gapSize}
 use Rattle.fields.specs.Reading.{fieldAt, wordAt, longAt, modeAt, rowAt, taskAt}
 use Rattle.fields.specs.declared.table.Kind.{Kind}
 use Rattle.fields.specs.declared.table.Kind.the-variants.{RefusedTag, LabelField, ModeField, RowField, TaskField, EndField, SkippedField}
@@ -23,8 +25,10 @@ use Rattle.sheet.proofs.Numbered.{long-enough}
 use Rattle.sheet.proofs.Walking.{field-in}
 use Rattle.written.specs.Reading.{wordsAt}
 use Rattle.written.specs.Values.{ModeEntry, TaskEntry}
-use Rattle.written.specs.Written.{words, field, contentOf}
+use Rattle.written.specs.Written.{words, modeNumbers, field, contentOf}
+use Rattle.written.specs.ShortForm.{hasShorter}
 use Rattle.written.proofs.Sheets.{rowEntry}
+use Rattle.written.proofs.ShortForms.{shorter-size}
 
 -- an answer that is no refusal is what stands behind the rules
 not-refused : {A : Type 0} (refuse : ℕ → A) (ok answer : A) → ((n : ℕ) → refuse n ≡ answer → ⊥) → (rules : List Rule) → judgedBy refuse rules ok ≡ answer → ok ≡ answer
@@ -75,7 +79,18 @@ tag-known tag kind e known =
 -- rule 5: a field is no longer than its tag's line allows
 pub short-enough : (tag size : ℕ) → wrongLength tag size ≡ false → size ≤ lineOf tag .longest
 unfolding wrongLength
-short-enough tag size e = ltb-false _ _ (neither _ _ e .1)
+short-enough tag size e = ltb-false _ _ (neither _ _ (neither _ _ e .1) .0)
+
+-- and has an even length where its content is numbers; so a mode that has more than its first numbers has its fall-back
+whole-numbers : (tag size : ℕ) → wrongLength tag size ≡ false → pick (lineOf tag .numbers) (not (eqb (size % 2) 0)) false ≡ false
+unfolding wrongLength
+whole-numbers tag size e = neither _ _ (neither _ _ e .1) .1
+
+with-fallback : (size : ℕ) → wrongLength 2 size ≡ false → (size ≡ modeSize → ⊥) → size ≡ modeSize + fallbackSize
+unfolding lineOf fields pick
+with-fallback size e other =
+    let even : size % 2 ≡ 0 = eqb-true _ _ (not-false _ (whole-numbers 2 size e)) in
+    omega (arith, long-enough 2 size e, short-enough 2 size e)
 
 -- two bytes are those of their number
 high-byte : (high low number : ℕ) → low < 256 → high * 256 + low ≡ number → high ≡ number / 256
@@ -133,11 +148,39 @@ module _ (bytes : List ℕ) (fit : Bytes bytes) where
 
   -- the content of a field is that of the entry which is read from it
   module _ (start size : ℕ) (inside : start + size ≤ length bytes) where
-    pub mode-content : wrongLength 2 size ≡ false → take size (drop start bytes) ≡ contentOf (ModeEntry (modeAt bytes start))
-    unfolding contentOf wordsAt lineOf fields
-    mode-content right =
-        let four : size ≡ gapSize * 2 = omega (arith, long-enough 2 size right, short-enough 2 size right) in
-        rw four (part-words 2 start (omega arith))
+    -- a mode's boundary and job length, and both with its fall-back
+    two-numbers : start + modeSize ≤ length bytes → take modeSize (drop start bytes) ≡ words (wordAt bytes start ∷ wordAt bytes (start + 2) ∷ [])
+    unfolding wordsAt
+    two-numbers there = part-words 2 start there
+
+    three-numbers : start + 6 ≤ length bytes → take 6 (drop start bytes) ≡ words (wordAt bytes start ∷ wordAt bytes (start + 2) ∷ wordAt bytes (start + modeSize) ∷ [])
+    unfolding wordsAt
+    three-numbers there =
+        let third : start + 2 + 2 ≡ start + modeSize = omega arith in
+        rw (part-words 3 start there, third) refl
+
+    -- a mode's content is that of its entry where no shorter field says the same
+    pub mode-content : wrongLength 2 size ≡ false → hasShorter bytes ModeField start size ≡ false → take size (drop start bytes) ≡ contentOf (ModeEntry (modeAt bytes start size))
+    unfolding contentOf modeNumbers pick
+    mode-content right needed =
+        ⊎-elim
+        (λ (e : eqb size modeSize ≡ true).
+        let four : size ≡ modeSize = eqb-true _ _ e in
+        let same : eqb (wordAt bytes start) (wordAt bytes start) ≡ true = eq-eqb (wordAt bytes start) (wordAt bytes start) refl in
+        rw (four, same) (two-numbers (omega arith)))
+        (λ (e : eqb size modeSize ≡ false).
+        let six : size ≡ modeSize + fallbackSize = with-fallback size right (eqb-false _ _ e) in
+        let other : eqb (wordAt bytes (start + modeSize)) (wordAt bytes start) ≡ false = rw six at needed in
+        rw (six, other) (three-numbers (omega arith)))
+        (bool-or (eqb size modeSize))
+
+    -- and else its first two numbers are
+    pub mode-shortened : hasShorter bytes ModeField start size ≡ true → take modeSize (drop start bytes) ≡ contentOf (ModeEntry (modeAt bytes start size))
+    unfolding contentOf modeNumbers pick
+    mode-shortened has =
+        let six : size ≡ modeSize + fallbackSize = shorter-size bytes ModeField start size has in
+        let same : eqb (wordAt bytes (start + modeSize)) (wordAt bytes start) ≡ true = rw six at has in
+        rw (six, same) (two-numbers (omega arith))
 
     pub task-content : wrongLength 4 size ≡ false → take size (drop start bytes) ≡ contentOf (TaskEntry (taskAt bytes start))
     unfolding contentOf wordsAt lineOf fields

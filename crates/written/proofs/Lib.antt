@@ -4,6 +4,7 @@ pub mod Fields
 pub mod From
 pub mod Alike
 pub mod Named
+pub mod ModeNumbers
 pub mod EntryFields
 pub mod Walked
 pub mod EntriesKept
@@ -12,8 +13,9 @@ pub mod Columns
 pub mod EntriesFrom
 pub mod ReadBack
 pub mod JudgedWritten
-pub mod Skipped
+pub mod ShortForms
 pub mod FieldBytes
 pub mod WrittenBack
+pub mod LastMode
 pub mod Sizes
 pub mod AcceptedAgain

@@ -51,12 +51,14 @@ both-named : (first behind : List Entry) → AllNamed first → AllNamed behind 
 both-named [] behind a b = b
 both-named (entry ∷ first) behind a b = (a .0, both-named first behind (a .1) b)
 
-modes-named : (boundaries lengths : List ℕ) → AllNamed (modeEntries boundaries lengths)
+modes-named : (boundaries lengths fallbacks : List ℕ) → AllNamed (modeEntries boundaries lengths fallbacks)
 unfolding modeEntries
-modes-named [] [] = tt
-modes-named [] (length ∷ lengths) = (modes-part, tt)
-modes-named (boundary ∷ boundaries) [] = (modes-part, tt)
-modes-named (boundary ∷ boundaries) (length ∷ lengths) = (tt, modes-named boundaries lengths)
+modes-named [] [] [] = tt
+modes-named [] [] (fallback ∷ fallbacks) = (modes-part, tt)
+modes-named [] (length ∷ lengths) fallbacks = (modes-part, tt)
+modes-named (boundary ∷ boundaries) [] fallbacks = (modes-part, tt)
+modes-named (boundary ∷ boundaries) (length ∷ lengths) [] = (modes-part, tt)
+modes-named (boundary ∷ boundaries) (length ∷ lengths) (fallback ∷ fallbacks) = (tt, modes-named boundaries lengths fallbacks)
 
 rows-named : (speeds deadlines sets gaps : List ℕ) → AllNamed (rowEntries speeds deadlines sets gaps)
 unfolding rowEntries
@@ -81,6 +83,6 @@ pub entries-named : (values : Values) → AllNamed (entries values)
 unfolding entries
 entries-named values = (
   tt,
-  both-named (modeEntries (values .boundaries) (values .lengths)) _ (modes-named _ _)
+  both-named (modeEntries (values .boundaries) (values .lengths) (values .fallbacks)) _ (modes-named _ _ _)
       (both-named (rowEntries (values .speeds) (values .deadlines) (values .sets) (values .gaps)) _ (rows-named _ _ _ _) (tasks-named _ _ _)),
 )

@@ -10,7 +10,7 @@ use lib.ListN.{length, take, drop}
 use lib.Seq.{take-append-seam}
 use Rattle.fields.specs.Deciding.{firstBroken}
 use Rattle.fields.specs.Limits.{headSize}
-use Rattle.fields.specs.Values.{emptySheet}
+use Rattle.fields.specs.Values.{emptySheet, shortSize}
 use Rattle.rules.specs.Rules.{followerCount, unlikeSet, commonRules}
 use Rattle.fields.specs.declared.values.Sheet.{Sheet}
 use Rattle.fields.proofs.Deciding.{Kept, both-kept}
@@ -34,7 +34,7 @@ entry-read bytes at sheet (LabelEntry text) rest here order uncut kept =
     let same : take (length text) (drop (at + 3) bytes) ≡ text = rw (content-here bytes at 1 text rest here) (take-append-seam text rest) in
     rw same at (with-label bytes sheet order (length text) false (at + 3) common)
 entry-read bytes at sheet (ModeEntry mode) rest here order uncut kept =
-    with-mode bytes sheet order 4 false mode (both-kept (commonRules 2 (sheet .tally .last) 4 false (sheet .tally .modes)) _ kept .0)
+    with-mode bytes sheet order (shortSize mode) false mode (both-kept (commonRules 2 (sheet .tally .last) (shortSize mode) false (sheet .tally .modes)) _ kept .0)
 entry-read bytes at sheet (RowEntry speed deadline followers gaps) rest here order uncut kept =
     let size = rowSize gaps in
     let common = both-kept (commonRules 3 (sheet .tally .last) size (unlikeSet size followers) (sheet .tally .rows)) _ kept .0 in

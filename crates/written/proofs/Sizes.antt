@@ -5,20 +5,22 @@ use native.Mathlib.Omega.{arith}
 use mathlib.Core.Path.{_≡_, _∙_, refl, sym, ap}
 use mathlib.Core.Logic.{⊎-elim}
 use mathlib.Core.List.{List, [], _∷_, _++_, map}
+use lib.Dec.{eqb}
 use lib.Pow.{pow-mono}
 use lib.ListN.{length, getD, take, drop, length-append, length-take, length-map, take-append-drop, List·getD-eq-default}
 use Rattle.sets.specs.Sets.{width, nextIn}
 use Rattle.sets.proofs.Bits.{all-below}
 use Rattle.sets.proofs.Search.{next-none-all}
 use Rattle.meaning.proofs.Tests.{lt-or}
-use Rattle.fields.specs.Deciding.{firstBroken}
-use Rattle.fields.specs.Values.{emptySheet}
-use Rattle.fields.specs.Limits.{modeLimit, rowLimit, taskLimit, labelLimit, headSize, gapSize}
+use Rattle.fields.specs.Deciding.{pick, firstBroken}
+use Rattle.fields.specs.Values.{emptySheet, shortSize}
+use Rattle.fields.specs.Limits.{modeLimit, rowLimit, taskLimit, labelLimit, modeSize, fallbackSize, headSize, gapSize}
 use Rattle.rules.specs.Rules.{followerCount, unknownIn}
+use Rattle.fields.specs.declared.values.Mode.{Mode}
 use Rattle.fields.specs.declared.values.Tally.{Tally}
 use Rattle.fields.proofs.Deciding.{Kept, both-kept, any-false}
 use Rattle.sheet.proofs.KeptRules.{nothing}
-use Rattle.written.specs.Judging.{sheetSize, noTally, entryRules, countEntry, entriesRules, countEntries, unknownAmong, valuesRules}
+use Rattle.written.specs.Judging.{bandCount, sheetSize, noTally, entryRules, countEntry, entriesRules, countEntries, unknownAmong, valuesRules}
 use Rattle.written.specs.Reading.{valuesIn}
 use Rattle.written.specs.Values.{Values, Entry, LabelEntry, ModeEntry, RowEntry, TaskEntry, CutEntry, modeEntries, rowEntries, taskEntries, entries}
 use Rattle.written.specs.Written.{words, tagOf, contentOf, fieldOf, fieldsOf, field, written}
@@ -26,6 +28,8 @@ use Rattle.written.proofs.Columns.{Whole, entries-columns}
 use Rattle.written.proofs.Entered.{InOrder}
 use Rattle.written.proofs.EntriesKept.{label-says, row-says, entries-kept, rules-both, kept-written, end-written}
 use Rattle.written.proofs.EntryFields.{words-length}
+use Rattle.written.proofs.LastMode.{modes-alike, last-plain}
+use Rattle.written.proofs.ModeNumbers.{mode-long, band-size}
 use Rattle.written.proofs.Fields.{fields-both}
 use Rattle.written.proofs.ReadBack.{read-in-order, values-read}
 use Rattle.written.proofs.Sheets.{readSheet, entries-tally}
@@ -38,12 +42,19 @@ whole-both (entry ∷ first) behind whole =
     ((whole .0, both .0), both .1)
 
 -- the fields of each kind, where none is cut
-modes-size : (boundaries lengths : List ℕ) → Whole (modeEntries boundaries lengths) → length (fieldsOf (modeEntries boundaries lengths)) ≡ 7 * length boundaries
-unfolding modeEntries fieldsOf tagOf contentOf words
-modes-size [] [] whole = refl
-modes-size [] (l ∷ lengths) whole = absurd (whole .0)
-modes-size (boundary ∷ boundaries) [] whole = absurd (whole .0)
-modes-size (boundary ∷ boundaries) (l ∷ lengths) whole = omega (arith, modes-size boundaries lengths (whole .1))
+modes-size : (boundaries lengths fallbacks : List ℕ) → Whole (modeEntries boundaries lengths fallbacks)
+    → length (fieldsOf (modeEntries boundaries lengths fallbacks)) ≡ (3 + modeSize) * length boundaries + fallbackSize * bandCount boundaries fallbacks
+unfolding modeEntries fieldsOf bandCount tagOf
+modes-size [] [] [] whole = refl
+modes-size [] [] (fallback ∷ fallbacks) whole = absurd (whole .0)
+modes-size [] (l ∷ lengths) fallbacks whole = absurd (whole .0)
+modes-size (boundary ∷ boundaries) [] fallbacks whole = absurd (whole .0)
+modes-size (boundary ∷ boundaries) (l ∷ lengths) [] whole = absurd (whole .0)
+modes-size (boundary ∷ boundaries) (l ∷ lengths) (fallback ∷ fallbacks) whole =
+    let mode : Mode = record { boundary = record { 0 = boundary }; length = record { 0 = l }; fallback = record { 0 = fallback } } in
+    let more = fieldsOf (modeEntries boundaries lengths fallbacks) in
+    let own : shortSize mode ≡ modeSize + fallbackSize * pick (eqb fallback boundary) 0 1 = band-size mode in
+    omega (arith, length-append (contentOf (ModeEntry mode)) more, mode-long mode, own, modes-size boundaries lengths fallbacks (whole .1))
 
 tasks-size : (lengths periods deadlines : List ℕ) → Whole (taskEntries lengths periods deadlines) → length (fieldsOf (taskEntries lengths periods deadlines)) ≡ 9 * length lengths
 unfolding taskEntries fieldsOf tagOf contentOf words
@@ -117,10 +128,12 @@ column-most number held count column same =
 
 -- how many bytes values take, and how many they take at most
 abbrev pub sizeOf : Values → ℕ
-sizeOf values = sheetSize (length (values .label)) (length (values .boundaries)) (length (values .speeds)) (length (values .gaps)) (length (values .taskLengths))
+sizeOf values =
+    sheetSize (length (values .label)) (length (values .boundaries)) (bandCount (values .boundaries) (values .fallbacks))
+    (length (values .speeds)) (length (values .gaps)) (length (values .taskLengths))
 
 abbrev pub mostWritten : ℕ
-mostWritten = sheetSize labelLimit modeLimit rowLimit (rowLimit * rowLimit) taskLimit
+mostWritten = sheetSize labelLimit modeLimit (modeLimit - 1) rowLimit (rowLimit * rowLimit) taskLimit
 
 module _ (values : Values) (none : firstBroken (valuesRules values) ≡ 0) where
   -- no field breaks a rule, and the sheet that is read has these values
@@ -158,7 +171,7 @@ module _ (values : Values) (none : firstBroken (valuesRules values) ≡ 0) where
   whole = entries-columns values noTally kept .0
 
   abbrev modes : List Entry
-  modes = modeEntries (values .boundaries) (values .lengths)
+  modes = modeEntries (values .boundaries) (values .lengths) (values .fallbacks)
 
   abbrev rows : List Entry
   rows = rowEntries (values .speeds) (values .deadlines) (values .sets) (values .gaps)
@@ -172,6 +185,13 @@ module _ (values : Values) (none : firstBroken (valuesRules values) ≡ 0) where
       let first = whole-both modes (rows ++ tasks) (whole .1) in
       let behind = whole-both rows tasks (first .1) in
       (first .0, behind .0, behind .1)
+
+  -- each mode has a fall-back, and all but the last may have a band
+  pub fallbacks-long : length (values .boundaries) ≡ length (values .fallbacks)
+  fallbacks-long = modes-alike (values .boundaries) (values .lengths) (values .fallbacks) (each-whole .0) .1
+
+  pub bands-most : bandCount (values .boundaries) (values .fallbacks) ≤ modeLimit - 1
+  bands-most = omega (arith, last-plain values none (each-whole .0) (each-whole .1) (each-whole .2), modes-most)
 
   -- each row has no more gaps than there are rows
   pub gaps-most : length (values .gaps) ≤ rowLimit * rowLimit
@@ -199,14 +219,14 @@ module _ (values : Values) (none : firstBroken (valuesRules values) ≡ 0) where
         ap length parts,
         length-append first (second ++ third),
         length-append second third,
-        modes-size (values .boundaries) (values .lengths) (each-whole .0),
+        modes-size (values .boundaries) (values .lengths) (values .fallbacks) (each-whole .0),
         rows-size (values .speeds) (values .deadlines) (values .sets) (values .gaps) (each-whole .1),
         tasks-size (values .taskLengths) (values .taskPeriods) (values .taskDeadlines) (each-whole .2),
       )
 
   -- and so never more than this
   pub written-most : length (written values) ≤ mostWritten
-  written-most = omega (arith, size-written, label-most, modes-most, rows-most, gaps-most, tasks-most)
+  written-most = omega (arith, size-written, label-most, modes-most, bands-most, rows-most, gaps-most, tasks-most)
 
   -- rule 9: a set of as many bits as code gives it names only rows that a sheet can have
   pub sets-narrow : ((k : ℕ) → getD (values .sets) k 0 < 2 ^ width) → (k : ℕ) → getD (values .sets) k 0 < 2 ^ rowLimit

@@ -3,10 +3,10 @@ use Prim.Native.Nat.{ℕ, _+_, _*_}
 use mathlib.Core.List.{List, [], _∷_, _++_}
 use mathlib.Core.Bool.{Bool, false}
 use lib.ListN.{length, getD}
-use lib.Dec.{ltb}
-use Rattle.fields.specs.Deciding.{Rule, _when_, anyFrom}
-use Rattle.fields.specs.Limits.{headSize, gapSize}
-use Rattle.fields.specs.Values.{emptySheet}
+use lib.Dec.{ltb, eqb}
+use Rattle.fields.specs.Deciding.{Rule, _when_, pick, anyFrom}
+use Rattle.fields.specs.Limits.{modeSize, fallbackSize, headSize, gapSize}
+use Rattle.fields.specs.Values.{emptySheet, shortSize}
 use Rattle.rules.specs.Rules.{unlikeSet, unknownIn, commonRules, textRules, modeRules, rowRules, taskRules}
 use Rattle.rules.specs.Counting.{countLabel, countMode, countRow, countTask}
 use Rattle.fields.specs.declared.units.Ticks.{Ticks}
@@ -21,14 +21,21 @@ oneShorter gaps bound = anyFrom (λ k. ltb (getD gaps k 0) (bound .0)) 0 (length
 abbrev pub rowSize : List ℕ → ℕ
 rowSize gaps = headSize + gapSize * length gaps
 
+-- how many modes have a band: a fall-back that is not the boundary
+unfoldable pub bandCount : List ℕ → List ℕ → ℕ
+bandCount [] fallbacks = 0
+bandCount (boundary ∷ boundaries) [] = 0
+bandCount (boundary ∷ boundaries) (fallback ∷ fallbacks) = pick (eqb fallback boundary) 0 1 + bandCount boundaries fallbacks
+
 -- how many bytes a sheet has, by the sizes of its label and columns: each field has three before its content, and the end field has no more
-abbrev pub sheetSize : ℕ → ℕ → ℕ → ℕ → ℕ → ℕ
-sheetSize label modes rows gaps tasks = 6 + label + 7 * modes + (3 + headSize) * rows + gapSize * gaps + 9 * tasks
+abbrev pub sheetSize : ℕ → ℕ → ℕ → ℕ → ℕ → ℕ → ℕ
+sheetSize label modes bands rows gaps tasks =
+    6 + label + (3 + modeSize) * modes + fallbackSize * bands + (3 + headSize) * rows + gapSize * gaps + 9 * tasks
 
 -- the rules of an entry; a field without content breaks rule 5 whatever else it breaks
 unfoldable pub entryRules : Tally → Entry → List Rule
 entryRules tally (LabelEntry text) = commonRules 1 (tally .last) (length text) false 0 ++ textRules text 0 (length text)
-entryRules tally (ModeEntry mode) = commonRules 2 (tally .last) 4 false (tally .modes) ++ modeRules tally mode
+entryRules tally (ModeEntry mode) = commonRules 2 (tally .last) (shortSize mode) false (tally .modes) ++ modeRules tally mode (shortSize mode)
 entryRules tally (RowEntry speed deadline followers gaps) =
     commonRules 3 (tally .last) (rowSize gaps) (unlikeSet (rowSize gaps) followers) (tally .rows)
     ++ rowRules tally (record { speed = speed; deadline = deadline; followers = followers; gaps = 0 }) (oneShorter gaps (record { 0 = 1 })) (oneShorter gaps deadline)
@@ -38,7 +45,7 @@ entryRules tally (CutEntry tag) = commonRules tag (tally .last) 0 false 0
 -- what an entry adds to the tally
 unfoldable pub countEntry : Tally → Entry → Tally
 countEntry tally (LabelEntry text) = countLabel tally
-countEntry tally (ModeEntry mode) = countMode tally (mode .boundary)
+countEntry tally (ModeEntry mode) = countMode tally mode
 countEntry tally (RowEntry speed deadline followers gaps) = countRow tally speed
 countEntry tally (TaskEntry task) = countTask tally
 countEntry tally (CutEntry tag) = tally

@@ -1,5 +1,5 @@
 pub mod Values
 pub mod Written
 pub mod Reading
-pub mod Skipping
+pub mod ShortForm
 pub mod Judging

@@ -35,6 +35,7 @@ valuesIn bytes sheet =
       label = labelIn bytes sheet;
       boundaries = map (λ mode. mode .boundary .0) (modesIn sheet);
       lengths = map (λ mode. mode .length .0) (modesIn sheet);
+      fallbacks = map (λ mode. mode .fallback .0) (modesIn sheet);
       speeds = map (λ row. row .speed .0) (rowsIn sheet);
       deadlines = map (λ row. row .deadline .0) (rowsIn sheet);
       sets = map (λ row. row .followers) (rowsIn sheet);

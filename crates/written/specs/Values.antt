@@ -8,11 +8,12 @@ use Rattle.fields.specs.declared.units.Ticks.{Ticks}
 use Rattle.fields.specs.declared.values.Mode.{Mode}
 use Rattle.fields.specs.declared.values.Task.{Task}
 
--- the label's bytes; the boundaries and job lengths of the modes; the speeds, deadlines and follower sets of the rows, and their gaps, those of each row behind those of the row before; the lengths, periods and deadlines of the fixed tasks
+-- the label's bytes; the boundaries, job lengths and fall-backs of the modes; the speeds, deadlines and follower sets of the rows, and their gaps, those of each row behind those of the row before; the lengths, periods and deadlines of the fixed tasks
 pub record Values : Type 0 where
   pub label : List ℕ
   pub boundaries : List ℕ
   pub lengths : List ℕ
+  pub fallbacks : List ℕ
   pub speeds : List ℕ
   pub deadlines : List ℕ
   pub sets : List ℕ
@@ -21,13 +22,14 @@ pub record Values : Type 0 where
   pub taskPeriods : List ℕ
   pub taskDeadlines : List ℕ
 
--- the values that ten columns hold
-abbrev pub valuesFrom : List ℕ → List ℕ → List ℕ → List ℕ → List ℕ → List ℕ → List ℕ → List ℕ → List ℕ → List ℕ → Values
-valuesFrom label boundaries lengths speeds deadlines sets gaps taskLengths taskPeriods taskDeadlines =
+-- the values that eleven columns hold
+abbrev pub valuesFrom : List ℕ → List ℕ → List ℕ → List ℕ → List ℕ → List ℕ → List ℕ → List ℕ → List ℕ → List ℕ → List ℕ → Values
+valuesFrom label boundaries lengths fallbacks speeds deadlines sets gaps taskLengths taskPeriods taskDeadlines =
     record {
       label = label;
       boundaries = boundaries;
       lengths = lengths;
+      fallbacks = fallbacks;
       speeds = speeds;
       deadlines = deadlines;
       sets = sets;
@@ -45,13 +47,16 @@ pub data Entry : Type 0 where
   TaskEntry : Task → Entry
   CutEntry : ℕ → Entry
 
--- a mode for each boundary and job length
-unfoldable pub modeEntries : List ℕ → List ℕ → List Entry
-modeEntries [] [] = []
-modeEntries [] (length ∷ lengths) = CutEntry 2 ∷ []
-modeEntries (boundary ∷ boundaries) [] = CutEntry 2 ∷ []
-modeEntries (boundary ∷ boundaries) (length ∷ lengths) =
-    ModeEntry (record { boundary = record { 0 = boundary }; length = record { 0 = length } }) ∷ modeEntries boundaries lengths
+-- a mode for each boundary, job length and fall-back
+unfoldable pub modeEntries : List ℕ → List ℕ → List ℕ → List Entry
+modeEntries [] [] [] = []
+modeEntries [] [] (fallback ∷ fallbacks) = CutEntry 2 ∷ []
+modeEntries [] (length ∷ lengths) fallbacks = CutEntry 2 ∷ []
+modeEntries (boundary ∷ boundaries) [] fallbacks = CutEntry 2 ∷ []
+modeEntries (boundary ∷ boundaries) (length ∷ lengths) [] = CutEntry 2 ∷ []
+modeEntries (boundary ∷ boundaries) (length ∷ lengths) (fallback ∷ fallbacks) =
+    ModeEntry (record { boundary = record { 0 = boundary }; length = record { 0 = length }; fallback = record { 0 = fallback } })
+    ∷ modeEntries boundaries lengths fallbacks
 
 -- a row for each speed, deadline and follower set; it takes as many gaps as its set has rows, and no gap may be left over
 unfoldable pub rowEntries : List ℕ → List ℕ → List ℕ → List ℕ → List Entry
@@ -79,6 +84,6 @@ taskEntries (length ∷ lengths) (period ∷ periods) (deadline ∷ deadlines) =
 unfoldable pub entries : Values → List Entry
 entries values =
     LabelEntry (values .label)
-    ∷ (modeEntries (values .boundaries) (values .lengths)
+    ∷ (modeEntries (values .boundaries) (values .lengths) (values .fallbacks)
     ++ (rowEntries (values .speeds) (values .deadlines) (values .sets) (values .gaps)
     ++ taskEntries (values .taskLengths) (values .taskPeriods) (values .taskDeadlines)))

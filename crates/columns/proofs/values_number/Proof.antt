@@ -13,8 +13,8 @@ use Rattle.columns.proofs.values_number.Tie as tie
 -- the values that are judged
 abbrev given : tie.After-empty → Values
 given c =
-    let a = c .before .before .before .before .before .before .before .before .before .before .before .args in
-    valuesFrom (now (a .label)) (now (a .boundaries)) (now (a .lengths)) (now (a .speeds)) (now (a .deadlines)) (now (a .sets)) (now (a .gaps)) (now (a .task-lengths)) (now (a .task-periods)) (now (a .task-deadlines))
+    let a = c .before .before .before .before .before .before .before .before .before .before .before .before .args in
+    valuesFrom (now (a .label)) (now (a .boundaries)) (now (a .lengths)) (now (a .fallbacks)) (now (a .speeds)) (now (a .deadlines)) (now (a .sets)) (now (a .gaps)) (now (a .task-lengths)) (now (a .task-periods)) (now (a .task-deadlines))
 
 -- before anything is judged, all entries are left
 nothing-judged : (c : tie.After-empty) → Onward noTally (entries (given c)) (c .empty .result .tally) (entries (given c))
@@ -24,7 +24,7 @@ nothing-judged c = rw (c .empty .ensures) (onward-start noTally (entries (given 
 label-judged : (c : tie.After-count-label) →
     let values = given (c .before .before .before .before) in
     Onward noTally (entries values) (c .count-label .result)
-    (modeEntries (values .boundaries) (values .lengths)
+    (modeEntries (values .boundaries) (values .lengths) (values .fallbacks)
     ++ (rowEntries (values .speeds) (values .deadlines) (values .sets) (values .gaps) ++ taskEntries (values .taskLengths) (values .taskPeriods) (values .taskDeadlines)))
 unfolding entries countEntry
 label-judged c =

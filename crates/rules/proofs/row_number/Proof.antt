@@ -7,9 +7,9 @@ use borrow.Author.Needs.{needs}
 use Rattle.rules.proofs.row_number.Tie as tie
 
 -- where no test holds, no rule is broken
-returns-7 : tie.Need-returns-7
+returns-8 : tie.Need-returns-8
 unfolding rowRules firstBroken
-returns-7 c = search judging depth 9
+returns-8 c = search judging depth 10
 
 pub row-number-spec : {M : Type 1} → statement M
 unfolding rowRules firstBroken
@@ -17,13 +17,15 @@ row-number-spec =
     tie.close
     (tie.spec
     (λ c κs. search needs)
-    (λ c. search judging depth 9)
+    (λ c. search judging depth 10)
     (λ c κs. search needs)
-    (λ c. search judging depth 9)
-    (λ c. search judging depth 9)
+    (λ c. search judging depth 10)
     (λ c κs. search needs)
-    (λ c. search judging depth 9)
+    (λ c. search judging depth 10)
+    (λ c. search judging depth 10)
     (λ c κs. search needs)
-    (λ c. search judging depth 9)
-    (λ c. search judging depth 9)
-    returns-7)
+    (λ c. search judging depth 10)
+    (λ c κs. search needs)
+    (λ c. search judging depth 10)
+    (λ c. search judging depth 10)
+    returns-8)

@@ -11,7 +11,15 @@ returns c = rw (← c .before .before .line-of .ensures) (search judging)
 
 returns-2 : tie.Need-returns-2
 unfolding wrongLength
-returns-2 c = rw (← c .before .before .before .line-of .ensures) (search judging)
+returns-2 c = rw (← c .before .before .before .before .line-of .ensures) (search judging)
+
+returns-3 : tie.Need-returns-3
+unfolding wrongLength
+returns-3 c = rw (← c .before .before .before .before .before .line-of .ensures) (search judging)
+
+returns-4 : tie.Need-returns-4
+unfolding wrongLength
+returns-4 c = rw (← c .before .before .before .before .before .line-of .ensures) (search judging)
 
 pub wrong-length-spec : {M : Type 1} → statement M
 wrong-length-spec =
@@ -19,4 +27,6 @@ wrong-length-spec =
     (tie.spec
     (λ c κs. search needs)
     returns
-    returns-2)
+    returns-2
+    returns-3
+    returns-4)

@@ -5,7 +5,7 @@ use mathlib.Core.Path.{refl}
 use Rattle.sheet.proofs.judging.mode_at.Tie as tie
 
 returns : tie.Need-returns
-returns c = rw (← c .before .word-at .ensures, ← c .word-at2 .ensures) refl
+returns c = rw (c .before .before .word-at .ensures, c .before .word-at2 .ensures, c .fallback-at .ensures) refl
 
 pub mode-at-spec : {M : Type 1} → statement M
 mode-at-spec =
@@ -13,5 +13,6 @@ mode-at-spec =
     (tie.spec
     (λ c κs. search needs)
     (λ c. search needs)
+    (λ c κs. search needs)
     (λ c κs. search needs)
     returns)

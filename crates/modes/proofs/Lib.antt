@@ -1,0 +1,4 @@
+pub mod Left
+pub mod Among
+pub mod Bands
+pub mod Determined
