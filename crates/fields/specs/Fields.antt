@@ -12,16 +12,16 @@ use Rattle.fields.specs.declared.table.Line.{Line}
 
 -- a line that allows nothing
 abbrev pub noLine : Line
-noLine = record { shortest = 0; longest = 0; numbers = false; most = 0; required = false }
+noLine = record { shortest = 0; longest = 0; most = 0; required = false; numbers = false }
 
 -- one line for each tag from 1: label, mode, row, fixed task, end; content that is numbers of two bytes each has an even length
 unfoldable pub fields : List Line
 fields =
-    record { shortest = 1; longest = labelLimit; numbers = false; most = 1; required = true }
-    ∷ record { shortest = modeSize; longest = modeSize + fallbackSize; numbers = true; most = modeLimit; required = true }
-    ∷ record { shortest = headSize; longest = headSize + gapSize * rowLimit; numbers = true; most = rowLimit; required = true }
-    ∷ record { shortest = 6; longest = 6; numbers = true; most = taskLimit; required = false }
-    ∷ record { shortest = 0; longest = 0; numbers = false; most = 1; required = true }
+    record { shortest = 1; longest = labelLimit; most = 1; required = true; numbers = false }
+    ∷ record { shortest = modeSize; longest = modeSize + fallbackSize; most = modeLimit; required = true; numbers = true }
+    ∷ record { shortest = headSize; longest = headSize + gapSize * rowLimit; most = rowLimit; required = true; numbers = true }
+    ∷ record { shortest = 6; longest = 6; most = taskLimit; required = false; numbers = true }
+    ∷ record { shortest = 0; longest = 0; most = 1; required = true; numbers = false }
     ∷ []
 
 -- the line of a tag

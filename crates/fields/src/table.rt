@@ -3,14 +3,14 @@ use crate::values::Sheet;
 ghost use mathlib.Core.Path.{_≡_};
 ghost use Rattle.fields.specs.Fields.{kindOf, isRefused, isEnd, noLine, lineOf};
 
-// A line of the field table: shortest and longest content in bytes, whether it is numbers of two bytes each, how many such fields a sheet may
-// have, and whether one is required.
+// A line of the field table: shortest and longest content in bytes, how many such fields a sheet may have, whether one is required, and
+// whether the content is numbers of two bytes each.
 pub struct Line {
     pub shortest: usize,
     pub longest: usize,
-    pub numbers: bool,
     pub most: usize,
     pub required: bool,
+    pub numbers: bool,
 }
 
 pub enum Kind {
@@ -31,37 +31,37 @@ const FIELDS: [Line; KINDS] = [
     Line {
         shortest: 1,
         longest: Sheet::LABEL,
-        numbers: false,
         most: 1,
         required: true,
+        numbers: false,
     },
     Line {
         shortest: Sheet::MODE,
         longest: Sheet::MODE + Sheet::FALLBACK,
-        numbers: true,
         most: Sheet::MODES,
         required: true,
+        numbers: true,
     },
     Line {
         shortest: Sheet::HEAD,
         longest: Sheet::HEAD + Sheet::GAP * Sheet::ROWS,
-        numbers: true,
         most: Sheet::ROWS,
         required: true,
+        numbers: true,
     },
     Line {
         shortest: 6,
         longest: 6,
-        numbers: true,
         most: Sheet::TASKS,
         required: false,
+        numbers: true,
     },
     Line {
         shortest: 0,
         longest: 0,
-        numbers: false,
         most: 1,
         required: true,
+        numbers: false,
     },
 ];
 
@@ -84,9 +84,9 @@ fn no_line() -> Line
     Line {
         shortest: 0,
         longest: 0,
-        numbers: false,
         most: 0,
         required: false,
+        numbers: false,
     }
 }
 

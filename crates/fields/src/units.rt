@@ -23,6 +23,13 @@ impl Rpm {
         self.0 <= other.0
     }
 
+    // Whether both are one speed.
+    pub fn same(self, other: Rpm) -> bool
+        ensures { λ r. ⌜ r ≡ eqb (self .0) (other .0) ⌝ }
+    {
+        self.0 == other.0
+    }
+
     // Whether this speed is above the other.
     pub fn above(self, other: Rpm) -> bool
         ensures { λ r. ⌜ r ≡ ltb (other .0) (self .0) ⌝ }

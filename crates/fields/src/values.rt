@@ -23,7 +23,8 @@ impl Mode {
     pub fn short_size(self) -> usize
         ensures { λ r. ⌜ r ≡ shortSize self ⌝ }
     {
-        if self.fallback.0 == self.boundary.0 {
+        let fallback = self.fallback;
+        if fallback.same(self.boundary) {
             return Sheet::MODE;
         }
         Sheet::MODE + Sheet::FALLBACK

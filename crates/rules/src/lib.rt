@@ -212,7 +212,8 @@ fn bad_fallback(tally: Tally, mode: Mode, size: usize) -> bool
 fn last_hangs(tally: Tally) -> bool
     ensures { λ r. ⌜ r ≡ lastHangs tally ⌝ }
 {
-    tally.fallback.0 != tally.top.0
+    let fallback = tally.fallback;
+    !fallback.same(tally.top)
 }
 
 // Rule 9 of one follower set: it has a row that is not among the sheet's.
