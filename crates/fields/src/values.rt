@@ -11,7 +11,7 @@ pub struct Part {
     pub size: usize,
 }
 
-// The job length of speeds up to a boundary, and the fall-back to which an engine that slows down stays in the next mode.
+// The job length of speeds up to a boundary, and the fall-back: down to it an engine that slows down can still be in the next mode.
 pub struct Mode {
     pub boundary: Rpm,
     pub length: Ticks,

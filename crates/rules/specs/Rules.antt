@@ -88,7 +88,7 @@ commonRules tag last size unlike count =
 unfoldable pub textRules : List ℕ → ℕ → ℕ → List Rule
 textRules bytes start size = 7 when (badText bytes start size) ∷ []
 
--- rule 7: a fall-back of 0, above its own boundary or below the boundary before, where it stands in a field of so many bytes
+-- rule 7: a fall-back of 0, above its own boundary or below the boundary before; a mode's field of so many bytes is not judged by it where it has none
 unfoldable pub badFallback : Tally → Mode → ℕ → Bool
 badFallback tally mode size =
     pick (eqb size modeSize) false
@@ -98,7 +98,7 @@ badFallback tally mode size =
 unfoldable pub lastHangs : Tally → Bool
 lastHangs tally = not (eqb (tally .fallback .0) (tally .top .0))
 
--- the rules of the numbers of a mode, in a field of so many bytes; rule 8: a boundary that is not above the one before
+-- the rules of the numbers of a mode whose field has so many bytes; rule 8: a boundary that is not above the one before
 unfoldable pub modeRules : Tally → Mode → ℕ → List Rule
 modeRules tally mode size =
     7 when (badRpm (mode .boundary))
