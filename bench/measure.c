@@ -1,17 +1,18 @@
 /*
- * Measures whole calls of the proved library beside the same jobs in plain C: both in turn on the same bytes or values, the
- * best of several runs each, answers, cells and written bytes compared. With the word `ratios` it prints no times, for a
- * machine that emulates.
+ * Measures whole calls of the proved library beside the same jobs in plain C, the tables in two ways: in turn on the same bytes or
+ * values, the best of several runs each, answers, cells and written bytes compared. With the word `ratios` it prints no times, for
+ * a machine that emulates.
  */
 #include <stdio.h>
 #include <stdlib.h>
 #include <string.h>
 #include <time.h>
 
+#include "made.h"
 #include "marnipode.h"
 #include "plain.h"
 
-enum { ROWS = 32, LENGTHS = 8, TASKS = 16, LEAST_RUNS = 7, SHEET_SIZE = 4096 };
+enum { LEAST_RUNS = 7 };
 
 /* One sheet is written too quickly for the clock, so a run writes it this many times. */
 enum { WRITES = 2000 };
@@ -21,90 +22,30 @@ typedef enum { MARGIN, SHORTEST, EXPLAIN } question;
 
 static const char *const names[] = {"by interval", "by amount", "explain"};
 
+/* Who is asked: the library, plain C line by line, and plain C eight lines at once. */
+typedef enum { OURS, PLAIN, BLOCKED, SIDES } side;
+
 /* The longest job: of margin and shortest interval the loads do not matter, and what explain looks through has to hold. */
 static const unsigned longest_job[] = {2000, 2000, 200};
 
 /* Short jobs are run more often, for about this long. */
 static const double LEAST_SECONDS = 0.4;
 
-static uint8_t sheet[SHEET_SIZE];
-static size_t sheet_size;
-static uint32_t *ours, *plain;
+static made_sheet sheet;
+static uint32_t *cells[SIDES];
 static size_t cell_count;
 static int ratios_only;
 
 /* The values of the sheet, in columns, and how they are lent to each writer. */
-static uint16_t boundaries[LENGTHS], lengths[LENGTHS], fallbacks[LENGTHS], speeds[ROWS], deadlines[ROWS], gaps[ROWS * ROWS];
-static uint64_t follower_sets[ROWS];
-static uint16_t task_lengths[TASKS], task_periods[TASKS], task_deadlines[TASKS];
+static uint16_t boundaries[MOST_MODES], lengths[MOST_MODES], fallbacks[MOST_MODES];
+static uint16_t speeds[MOST_ROWS], deadlines[MOST_ROWS], gaps[MOST_ROWS * MOST_ROWS];
+static uint64_t follower_sets[MOST_ROWS];
+static uint16_t task_lengths[MOST_TASKS], task_periods[MOST_TASKS], task_deadlines[MOST_TASKS];
 static marnipode_values values;
 static plain_values same_values;
 
 /* The sheet as each of them writes it. */
-static uint8_t our_sheet[SHEET_SIZE], plain_sheet[SHEET_SIZE];
-
-static void put_byte(unsigned number)
-{
-    sheet[sheet_size++] = (uint8_t)number;
-}
-
-static void put_word(unsigned number)
-{
-    put_byte(number / 256);
-    put_byte(number % 256);
-}
-
-static void put_head(unsigned tag, unsigned size)
-{
-    put_byte(tag);
-    put_word(size);
-}
-
-/* Lengths fall with the modes. A band begins halfway from the boundary before. */
-static void put_mode(unsigned number, unsigned longest, int has_band)
-{
-    unsigned boundary = 1500 + 1000 * number;
-    put_head(2, has_band ? 6 : 4);
-    put_word(boundary);
-    put_word(longest / (number + 1));
-    if (has_band)
-        put_word(boundary - 500);
-}
-
-/*
- * A sheet whose rows have the same count of followers: each row is followed by itself and the next ones, the first after the
- * last. Deadlines and gaps fall as the speed rises. The first modes have bands, as many as are said.
- */
-static void make_sheet(const char *label, unsigned bands, unsigned rows, unsigned followers, unsigned longest, unsigned tasks)
-{
-    sheet_size = 0;
-    put_head(1, (unsigned)strlen(label));
-    for (const char *text = label; *text != 0; text++)
-        put_byte((unsigned char)*text);
-    for (unsigned i = 0; i < LENGTHS; i++)
-        put_mode(i, longest, i < bands);
-    for (unsigned k = 0; k < rows; k++) {
-        uint32_t set = 0;
-        for (unsigned i = 0; i < followers; i++)
-            set |= UINT32_C(1) << (k + i) % rows;
-        unsigned deadline = 1200 - 30 * k;
-        put_head(3, 8 + 2 * followers);
-        put_word(600 + 7500 / rows * k);
-        put_word(deadline);
-        put_word(set / 65536);
-        put_word(set % 65536);
-        for (unsigned j = 0; j < rows; j++)
-            if (set >> j & 1)
-                put_word(deadline + 7 * (j + k) % 100);
-    }
-    for (unsigned i = 0; i < tasks; i++) {
-        put_head(4, 6);
-        put_word(100 + i);
-        put_word(1000 + 300 * i);
-        put_word(1000 + 200 * i);
-    }
-    put_head(5, 0);
-}
+static uint8_t our_sheet[MOST_SHEET], plain_sheet[MOST_SHEET];
 
 static double seconds(void)
 {
@@ -124,15 +65,15 @@ static int64_t ask_ours(question asked, uint64_t t)
     uint8_t refused;
     int64_t answer;
     if (asked == SHORTEST) {
-        marnipode_shortest_answer shortest = marnipode_shortest(sheet, sheet_size, t, ours, cell_count);
+        marnipode_shortest_answer shortest = marnipode_shortest(sheet.bytes, sheet.size, t, cells[OURS], cell_count);
         refused = shortest.number;
         answer = shortest.time;
     } else if (asked == MARGIN) {
-        marnipode_margin_answer margin = marnipode_margin(sheet, sheet_size, t, ours, cell_count);
+        marnipode_margin_answer margin = marnipode_margin(sheet.bytes, sheet.size, t, cells[OURS], cell_count);
         refused = margin.number;
         answer = margin.margin;
     } else {
-        marnipode_explain_answer why = marnipode_explain(sheet, sheet_size, t, ours, cell_count, NULL, 0);
+        marnipode_explain_answer why = marnipode_explain(sheet.bytes, sheet.size, t, cells[OURS], cell_count, NULL, 0);
         refused = why.number;
         answer = (int64_t)why.interval;
     }
@@ -141,67 +82,102 @@ static int64_t ask_ours(question asked, uint64_t t)
     return answer;
 }
 
-static int64_t ask_plain(question asked, uint64_t t)
+static int64_t ask_in_c(side whom, question asked, uint64_t t)
 {
+    filling way = whom == BLOCKED ? IN_BLOCKS : BY_LINES;
     if (asked == SHORTEST)
-        return (int64_t)plain_shortest(sheet, t, plain);
-    return asked == MARGIN ? plain_margin(sheet, t, plain) : (int64_t)plain_tightest(sheet, t, plain);
+        return (int64_t)plain_shortest(way, sheet.bytes, t, cells[whom]);
+    if (asked == MARGIN)
+        return plain_margin(way, sheet.bytes, t, cells[whom]);
+    return (int64_t)plain_tightest(way, sheet.bytes, t, cells[whom]);
 }
 
-static double time_of(int64_t (*ask)(question, uint64_t), question asked, uint64_t t, int64_t *answer)
+static double time_of(side whom, question asked, uint64_t t, int64_t *answer)
 {
     double began = seconds();
-    *answer = ask(asked, t);
+    *answer = whom == OURS ? ask_ours(asked, t) : ask_in_c(whom, asked, t);
     return seconds() - began;
 }
 
-static void measure(question asked, unsigned rows, unsigned followers, uint64_t t)
+/* One run of each side, whose answers and cells have to be the same; a time that is the best so far is kept. */
+static void run_all(question asked, uint64_t t, size_t lines, double *best)
 {
-    make_sheet("measure", 0, rows, followers, longest_job[asked], 1);
-    double best_ours = 1e9, best_plain = 1e9;
-    size_t lines = asked == SHORTEST ? t : t + 1;
-    double began = seconds();
-    for (int run = 0; run < LEAST_RUNS || seconds() - began < LEAST_SECONDS; run++) {
-        int64_t answer, same;
-        double took = time_of(ask_ours, asked, t, &answer);
-        best_ours = took < best_ours ? took : best_ours;
-        took = time_of(ask_plain, asked, t, &same);
-        best_plain = took < best_plain ? took : best_plain;
-        if (answer != same || (asked == EXPLAIN && answer == 0))
+    int64_t answers[SIDES];
+    for (side whom = OURS; whom < SIDES; whom++) {
+        double took = time_of(whom, asked, t, &answers[whom]);
+        best[whom] = took < best[whom] ? took : best[whom];
+    }
+    for (side whom = PLAIN; whom < SIDES; whom++) {
+        if (answers[OURS] != answers[whom] || (asked == EXPLAIN && answers[OURS] == 0))
             fail("the answers differ, or an interval is overrun");
-        if (memcmp(ours, plain, lines * rows * sizeof *ours) != 0)
+        if (memcmp(cells[OURS], cells[whom], lines * sheet.rows * sizeof **cells) != 0)
             fail("the cells differ");
     }
-    double edges = (double)lines * rows * followers;
-    printf("%-12s %4u %9u %7llu", names[asked], rows, followers, (unsigned long long)t);
-    if (!ratios_only)
-        printf(" %9.2f %9.2f %9.2f %9.2f", 1e3 * best_ours, 1e3 * best_plain, 1e9 * best_ours / edges, 1e9 * best_plain / edges);
-    printf(" %9.2f\n", best_ours / best_plain);
+}
+
+/* Measures a question on the sheet that was made, whose followers are told in words. */
+static void measure(question asked, const char *followers, uint64_t t)
+{
+    double best[SIDES] = {1e9, 1e9, 1e9};
+    size_t lines = asked == SHORTEST ? t : t + 1;
+    double began = seconds();
+    for (int run = 0; run < LEAST_RUNS || seconds() - began < LEAST_SECONDS; run++)
+        run_all(asked, t, lines, best);
+    double edges = (double)lines * sheet.edges;
+    printf("%-12s %4u %9s %7llu", names[asked], sheet.rows, followers, (unsigned long long)t);
+    for (side whom = OURS; !ratios_only && whom < SIDES; whom++)
+        printf(" %9.2f", 1e3 * best[whom]);
+    for (side whom = OURS; !ratios_only && whom < SIDES; whom++)
+        printf(" %9.2f", 1e9 * best[whom] / edges);
+    printf(" %9.2f %9.2f\n", best[OURS] / best[PLAIN], best[OURS] / best[BLOCKED]);
+}
+
+/* The same on a sheet whose rows have the same count of followers. */
+static void measure_even(question asked, unsigned rows, unsigned followers, uint64_t t)
+{
+    char said[16];
+    snprintf(said, sizeof said, "%u", followers);
+    make_even_sheet(&sheet, "measure", 0, rows, followers, longest_job[asked], 1);
+    measure(asked, said, t);
+}
+
+static void measure_short(question asked, unsigned followers, uint64_t t)
+{
+    char said[16];
+    snprintf(said, sizeof said, "%u", followers);
+    make_short_sheet(&sheet, followers);
+    measure(asked, said, t);
+}
+
+static void measure_mixed(question asked, uint64_t t)
+{
+    make_mixed_sheet(&sheet);
+    measure(asked, "1 to 32", t);
 }
 
 /* The values of one row, whose gaps come behind those that are there already; gives how many gaps there are then. */
 static size_t take_row(size_t number, size_t rows, size_t gap_count)
 {
-    marnipode_row_answer row = marnipode_row(sheet, sheet_size, number);
+    marnipode_row_answer row = marnipode_row(sheet.bytes, sheet.size, number);
     speeds[number] = row.speed;
     deadlines[number] = row.deadline;
     follower_sets[number] = row.followers;
     for (size_t follower = 0; follower < rows; follower++)
         if (row.followers >> follower & 1)
-            gaps[gap_count++] = marnipode_gap(sheet, sheet_size, number, follower);
+            gaps[gap_count++] = marnipode_gap(sheet.bytes, sheet.size, number, follower);
     return gap_count;
 }
 
 /* Both writers are lent the same columns, with the values that the library tells of the sheet. */
 static void take_values(void)
 {
-    marnipode_judge_answer judged = marnipode_judge(sheet, sheet_size);
-    marnipode_label_answer label = marnipode_label(sheet, sheet_size);
+    marnipode_judge_answer judged = marnipode_judge(sheet.bytes, sheet.size);
+    marnipode_label_answer label = marnipode_label(sheet.bytes, sheet.size);
     size_t gap_count = 0;
     if (judged.number != 0)
         fail("the sheet is refused");
     for (size_t i = 0; i < judged.modes; i++) {
-        marnipode_mode_answer mode = marnipode_mode(sheet, sheet_size, i);
+        marnipode_mode_answer mode = marnipode_mode(sheet.bytes, sheet.size, i);
         boundaries[i] = mode.boundary;
         lengths[i] = mode.length;
         fallbacks[i] = mode.fallback;
@@ -209,22 +185,22 @@ static void take_values(void)
     for (size_t i = 0; i < judged.rows; i++)
         gap_count = take_row(i, judged.rows, gap_count);
     for (size_t i = 0; i < judged.tasks; i++) {
-        marnipode_task_answer task = marnipode_task(sheet, sheet_size, i);
+        marnipode_task_answer task = marnipode_task(sheet.bytes, sheet.size, i);
         task_lengths[i] = task.length;
         task_periods[i] = task.period;
         task_deadlines[i] = task.deadline;
     }
-    values = (marnipode_values){sheet + label.start, label.size, boundaries, lengths, fallbacks, judged.modes, speeds, deadlines,
+    values = (marnipode_values){sheet.bytes + label.start, label.size, boundaries, lengths, fallbacks, judged.modes, speeds, deadlines,
                                 follower_sets, judged.rows, gaps, gap_count, task_lengths, task_periods, task_deadlines,
                                 judged.tasks};
-    same_values = (plain_values){sheet + label.start, label.size, boundaries, lengths, fallbacks, judged.modes, speeds, deadlines,
+    same_values = (plain_values){sheet.bytes + label.start, label.size, boundaries, lengths, fallbacks, judged.modes, speeds, deadlines,
                                  follower_sets, judged.rows, gaps, gap_count, task_lengths, task_periods, task_deadlines,
                                  judged.tasks};
 }
 
 static size_t write_ours(void)
 {
-    marnipode_write_answer answer = marnipode_write(&values, our_sheet, SHEET_SIZE);
+    marnipode_write_answer answer = marnipode_write(&values, our_sheet, MOST_SHEET);
     if (answer.number != 0)
         fail("the values are refused");
     return answer.size;
@@ -232,7 +208,7 @@ static size_t write_ours(void)
 
 static size_t write_plain(void)
 {
-    plain_write_answer answer = plain_write(&same_values, plain_sheet, SHEET_SIZE);
+    plain_write_answer answer = plain_write(&same_values, plain_sheet, MOST_SHEET);
     if (answer.number != 0)
         fail("the values are refused in plain C");
     return answer.size;
@@ -241,7 +217,7 @@ static size_t write_plain(void)
 /* The time of one sheet. What stands in the output before is another byte in each run, so that one that is not written is seen. */
 static double time_of_writing(size_t (*write_one)(void), uint8_t *output, int run, size_t *size)
 {
-    memset(output, run, SHEET_SIZE);
+    memset(output, run, MOST_SHEET);
     double began = seconds();
     for (int i = 0; i < WRITES; i++)
         *size = write_one();
@@ -250,7 +226,7 @@ static double time_of_writing(size_t (*write_one)(void), uint8_t *output, int ru
 
 static void measure_writing(const char *which, const char *label, unsigned bands, unsigned followers, unsigned tasks)
 {
-    make_sheet(label, bands, ROWS, followers, longest_job[MARGIN], tasks);
+    make_even_sheet(&sheet, label, bands, MOST_ROWS, followers, longest_job[MARGIN], tasks);
     take_values();
     double best_ours = 1e9, best_plain = 1e9;
     double began = seconds();
@@ -260,12 +236,12 @@ static void measure_writing(const char *which, const char *label, unsigned bands
         best_ours = took < best_ours ? took : best_ours;
         took = time_of_writing(write_plain, plain_sheet, run, &same);
         best_plain = took < best_plain ? took : best_plain;
-        if (size != same || size != sheet_size)
+        if (size != same || size != sheet.size)
             fail("the sizes of the written sheets differ");
-        if (memcmp(our_sheet, plain_sheet, SHEET_SIZE) != 0 || memcmp(our_sheet, sheet, sheet_size) != 0)
+        if (memcmp(our_sheet, plain_sheet, MOST_SHEET) != 0 || memcmp(our_sheet, sheet.bytes, sheet.size) != 0)
             fail("the written bytes differ");
     }
-    printf("%-12s %4d %9u %7zu", which, ROWS, followers, sheet_size);
+    printf("%-12s %4d %9u %7zu", which, MOST_ROWS, followers, sheet.size);
     if (!ratios_only)
         printf(" %9.3f %9.3f", 1e6 * best_ours, 1e6 * best_plain);
     printf(" %9.2f\n", best_ours / best_plain);
@@ -275,8 +251,8 @@ static void head(const char *title)
 {
     printf("\n%s\n%-12s %4s %9s %7s", title, "table", "rows", "followers", "up to");
     if (!ratios_only)
-        printf(" %9s %9s %9s %9s", "ms", "ms in C", "ns/edge", "ns in C");
-    printf(" %9s\n", "ratio");
+        printf(" %9s %9s %9s %9s %9s %9s", "ms", "ms in C", "in blocks", "ns/edge", "ns in C", "in blocks");
+    printf(" %9s %9s\n", "to C", "to blocks");
 }
 
 static void head_of_writing(const char *title)
@@ -287,36 +263,59 @@ static void head_of_writing(const char *title)
     printf(" %9s\n", "ratio");
 }
 
+/* The counts of followers of the main tables. */
+static const unsigned counts[] = {32, 3, 2, 1};
+
+enum { COUNTS = sizeof counts / sizeof counts[0] };
+
+static void measure_tables(void)
+{
+    head("Whole calls: margin at 65,535, and the shortest interval for 65,536");
+    for (unsigned i = 0; i < COUNTS; i++) {
+        measure_even(MARGIN, MOST_ROWS, counts[i], MARNIPODE_LONGEST_TIME);
+        measure_even(SHORTEST, MOST_ROWS, counts[i], MARNIPODE_LARGEST_AMOUNT);
+    }
+    head("The same on a sheet of mixed deadlines, gaps, job lengths and followers");
+    measure_mixed(MARGIN, MARNIPODE_LONGEST_TIME);
+    measure_mixed(SHORTEST, MARNIPODE_LARGEST_AMOUNT);
+    head("The same where deadlines and job lengths are below eight ticks, so that all go line by line");
+    for (unsigned i = 0; i < COUNTS; i++) {
+        measure_short(MARGIN, counts[i], MARNIPODE_LONGEST_TIME);
+        measure_short(SHORTEST, counts[i], MARNIPODE_LARGEST_AMOUNT);
+    }
+    head("Why it holds up to 65,535: the table by interval, then one pass over it");
+    for (unsigned i = 0; i < COUNTS; i++)
+        measure_even(EXPLAIN, MOST_ROWS, counts[i], MARNIPODE_LONGEST_TIME);
+}
+
+static void measure_growth(void)
+{
+    head("With the rows, three followers each");
+    for (unsigned rows = 4; rows <= MOST_ROWS; rows *= 2)
+        measure_even(MARGIN, rows, 3, MARNIPODE_LONGEST_TIME);
+    head("With the followers");
+    for (unsigned followers = 1; followers <= MOST_ROWS; followers *= 2)
+        measure_even(MARGIN, MOST_ROWS, followers, MARNIPODE_LONGEST_TIME);
+    head("With the interval");
+    for (uint64_t lines = 4096; lines <= MARNIPODE_LONGEST_TIME + 1; lines *= 2)
+        measure_even(MARGIN, MOST_ROWS, 3, lines - 1);
+}
+
 int main(int argc, char **argv)
 {
     ratios_only = argc == 2 && strcmp(argv[1], "ratios") == 0;
-    cell_count = (size_t)ROWS * (MARNIPODE_LONGEST_TIME + 1);
-    ours = calloc(cell_count, sizeof *ours);
-    plain = calloc(cell_count, sizeof *plain);
-    if (ours == NULL || plain == NULL)
-        return 2;
+    cell_count = (size_t)MOST_ROWS * (MARNIPODE_LONGEST_TIME + 1);
+    for (side whom = OURS; whom < SIDES; whom++)
+        if ((cells[whom] = calloc(cell_count, sizeof **cells)) == NULL)
+            return 2;
     printf("One edge is one follower of one cell. Best of at least %d runs, in turn, on the same bytes; answers, cells and written bytes are equal.\n", LEAST_RUNS);
-    head("Whole calls: margin at 65,535, and the shortest interval for 65,536");
-    for (unsigned followers = ROWS; 0 < followers; followers = followers == ROWS ? 3 : 0) {
-        measure(MARGIN, ROWS, followers, MARNIPODE_LONGEST_TIME);
-        measure(SHORTEST, ROWS, followers, MARNIPODE_LONGEST_TIME + 1);
-    }
-    head("Why it holds up to 65,535: the table by interval, then one pass over it");
-    for (unsigned followers = ROWS; 0 < followers; followers = followers == ROWS ? 3 : 0)
-        measure(EXPLAIN, ROWS, followers, MARNIPODE_LONGEST_TIME);
-    head("With the rows, three followers each");
-    for (unsigned rows = 4; rows <= ROWS; rows *= 2)
-        measure(MARGIN, rows, 3, MARNIPODE_LONGEST_TIME);
-    head("With the followers");
-    for (unsigned followers = 1; followers <= ROWS; followers *= 2)
-        measure(MARGIN, ROWS, followers, MARNIPODE_LONGEST_TIME);
-    head("With the interval");
-    for (uint64_t lines = 4096; lines <= MARNIPODE_LONGEST_TIME + 1; lines *= 2)
-        measure(MARGIN, ROWS, 3, lines - 1);
+    printf("C fills tables line by line, and in blocks of eight lines; the last two columns are our time by that of each.\n");
+    measure_tables();
+    measure_growth();
     head_of_writing("Sheets written from values, which are judged first: the largest there is, and a usual one");
-    measure_writing("largest", "A label of 32 bytes, the longest", LENGTHS - 1, ROWS, TASKS);
+    measure_writing("largest", "A label of 32 bytes, the longest", MOST_MODES - 1, MOST_ROWS, MOST_TASKS);
     measure_writing("usual", "measure", 0, 3, 2);
-    free(plain);
-    free(ours);
+    for (side whom = OURS; whom < SIDES; whom++)
+        free(cells[whom]);
     return 0;
 }

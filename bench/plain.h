@@ -2,12 +2,7 @@
 #ifndef PLAIN_H
 #define PLAIN_H
 
-typedef __UINT8_TYPE__ byte_number;
-typedef __UINT16_TYPE__ column_number;
-typedef __UINT32_TYPE__ cell_number;
-typedef __UINT64_TYPE__ set_number;
-typedef __INT64_TYPE__ signed_number;
-typedef __SIZE_TYPE__ place_number;
+#include "numbers.h"
 
 /* The values of a sheet in the same columns as marnipode_values, which comes with headers of the machine and cannot be had here. */
 typedef struct {
@@ -35,14 +30,17 @@ typedef struct {
     place_number size;
 } plain_write_answer;
 
+/* How the tables are filled: line by line, or eight lines at once where the sheet allows it. */
+typedef enum { BY_LINES, IN_BLOCKS } filling;
+
 /* The margin at t, after the table by interval is filled up to it. */
-signed_number plain_margin(const byte_number *bytes, place_number t, cell_number *cells);
+signed_number plain_margin(filling way, const byte_number *bytes, place_number t, cell_number *cells);
 
 /* The earliest interval with the smallest margin up to a horizon, after the table by interval is filled up to it; 0 where one is overrun. */
-place_number plain_tightest(const byte_number *bytes, place_number horizon, cell_number *cells);
+place_number plain_tightest(filling way, const byte_number *bytes, place_number horizon, cell_number *cells);
 
 /* The shortest interval for an amount, after the table by amount is filled up to it. */
-cell_number plain_shortest(const byte_number *bytes, place_number amount, cell_number *cells);
+cell_number plain_shortest(filling way, const byte_number *bytes, place_number amount, cell_number *cells);
 
 /* Judges values as the reader would judge their sheet, and writes it at the front of the output; a refusal writes nothing. */
 plain_write_answer plain_write(const plain_values *values, byte_number *output, place_number output_size);

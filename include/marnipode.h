@@ -31,8 +31,8 @@ extern "C" {
 #endif
 
 /* The version of this header and its archive; as a number, 1.2.3 is 10203. CHANGELOG.md says what a new one changes. */
-#define MARNIPODE_VERSION "2.0.0"
-#define MARNIPODE_VERSION_NUMBER 20000
+#define MARNIPODE_VERSION "2.0.1"
+#define MARNIPODE_VERSION_NUMBER 20001
 
 /* The most modes, rows and fixed tasks of a sheet, and the most bytes of its label. */
 #define MARNIPODE_MOST_MODES 8
@@ -52,10 +52,10 @@ extern "C" {
 #define MARNIPODE_NO_TIME UINT32_C(4294967295)
 
 /* No call takes more stack than this, in bytes, with all that it calls but `memcpy`, which the program brings. */
-#define MARNIPODE_MOST_STACK 8448
+#define MARNIPODE_MOST_STACK 3072
 
 /* And writing a sheet takes no more than this. */
-#define MARNIPODE_MOST_STACK_TO_WRITE 4096
+#define MARNIPODE_MOST_STACK_TO_WRITE 1024
 
 /*
  * Each refusal. README.md says what to do about it, docs/FORMAT.md what breaks the rule of this number, in which order the

@@ -5,16 +5,25 @@
 #include <string.h>
 
 /* Choices for each digit. Of three rows all followers are one digit, a bit for each pair of rows. */
-enum { LENGTHS = 3, DEADLINES = 2, GAPS = 4, TASKS = MOST_TASKS + 1, SETS = 1 << (MOST_ROWS * MOST_ROWS) };
+enum { LENGTHS = 3, GAPS = GAP_LENGTHS + 1, TASKS = MOST_TASKS + 1, SETS = 1 << (MOST_ROWS * MOST_ROWS) };
 
 /* The deadline of the second task is longer than its period. The third takes all of interval 2, and the fourth is too much there. */
 const fixed_task fixed_tasks[MOST_TASKS] = {{1, 5, 4}, {2, 3, 5}, {2, 7, 2}, {1, 9, 2}};
 
+/*
+ * Eight lines of a table are filled at once where no deadline, or no job length, is below 8: times from 7 on meet both ways. Up to the
+ * horizon 33 there are four times eight lines and two that are left over, so that a gap of 17 adds work within eight lines too. The
+ * steps have no divisor in common with the number of any choice, so that each choice is met with each other one.
+ */
+static const scale small_times = {1, 2, {0, 1, 2}, 9, {1, 1, 1}};
+static const scale times_around_eight = {7, 3, {0, 1, 8}, 33, {1, 29, 83}};
+
 /* A boundary speed belongs to the slower mode. */
 static const family families[] = {
-    {"at-boundaries", "at boundary speeds, each in a mode of its own", {1000, 2000, 3000}, {0, 1, 2}, false},
-    {"above-boundaries", "one rpm above the boundary of the mode before their own", {1, 1001, 2001}, {0, 1, 2}, false},
-    {"shared-mode", "below a boundary, at it, in the same mode, and one rpm above it", {999, 1000, 1001}, {0, 0, 1}, true},
+    {"at-boundaries", "at boundary speeds, each in a mode of its own", {1000, 2000, 3000}, {0, 1, 2}, false, &small_times},
+    {"above-boundaries", "one rpm above the boundary of the mode before their own", {1, 1001, 2001}, {0, 1, 2}, false, &small_times},
+    {"shared-mode", "below a boundary, at it, in the same mode, and one rpm above it", {999, 1000, 1001}, {0, 0, 1}, true, &small_times},
+    {"around-eight", "at boundary speeds, each in a mode of its own", {1000, 2000, 3000}, {0, 1, 2}, false, &times_around_eight},
 };
 
 enum { FAMILIES = sizeof families / sizeof families[0] };
@@ -39,15 +48,16 @@ const family *find_family(const char *name)
     return NULL;
 }
 
-unsigned plans_of(unsigned rows)
+unsigned plans_of(const family *chosen, unsigned rows)
 {
+    unsigned deadlines = chosen->times->deadlines;
     switch (rows) {
     case 1:
-        return TASKS * LENGTHS * DEADLINES * GAPS;
+        return TASKS * LENGTHS * deadlines * GAPS;
     case 2:
-        return TASKS * LENGTHS * LENGTHS * DEADLINES * DEADLINES * GAPS * GAPS * GAPS * GAPS;
+        return TASKS * LENGTHS * LENGTHS * deadlines * deadlines * GAPS * GAPS * GAPS * GAPS;
     default:
-        return SETS * DEADLINES * DEADLINES * DEADLINES * LENGTHS * LENGTHS * LENGTHS;
+        return SETS * deadlines * deadlines * deadlines * LENGTHS * LENGTHS * LENGTHS;
     }
 }
 
@@ -59,54 +69,54 @@ static unsigned take(unsigned *number, unsigned choices)
     return digit;
 }
 
-static void take_lengths(plan *made, unsigned *number)
+static void take_lengths(plan *made, const scale *ticks, unsigned *number)
 {
     for (unsigned i = 0; i < made->rows; i++)
-        made->mode_lengths[i] = 1 + take(number, LENGTHS);
+        made->mode_lengths[i] = ticks->shortest + take(number, LENGTHS);
 }
 
-static void take_deadlines(plan *made, unsigned *number)
+static void take_deadlines(plan *made, const scale *ticks, unsigned *number)
 {
     for (unsigned i = 0; i < made->rows; i++)
-        made->deadlines[i] = 1 + take(number, DEADLINES);
+        made->deadlines[i] = ticks->shortest + take(number, ticks->deadlines);
 }
 
-/* No follower, or a gap of the deadline, one more or two more. */
-static void take_gaps(plan *made, unsigned *number)
+/* No follower, or a gap that is longer than the deadline by one of the family's numbers. */
+static void take_gaps(plan *made, const scale *ticks, unsigned *number)
 {
     for (unsigned i = 0; i < made->rows * made->rows; i++) {
         unsigned row = i / made->rows, choice = take(number, GAPS);
-        made->gaps[row][i % made->rows] = choice == 0 ? 0 : made->deadlines[row] + choice - 1;
+        made->gaps[row][i % made->rows] = choice == 0 ? 0 : made->deadlines[row] + ticks->longer[choice - 1];
     }
 }
 
 /*
- * Three rows have no gap or one that follows from the deadline: out of a row with deadline 1 it is 1, out of one with deadline 2 it
- * is 4, 3 and 2, so that going on to a faster row is sooner than slowing down.
+ * Three rows have no gap or one that follows from the deadline: out of a row with the shortest deadline it is that, out of any other
+ * it is 2, 1 and 0 longer, so that going on to a faster row is sooner than slowing down.
  */
-static void shape_gaps(plan *made, unsigned set)
+static void shape_gaps(plan *made, const scale *ticks, unsigned set)
 {
     for (unsigned i = 0; i < MOST_ROWS * MOST_ROWS; i++) {
-        unsigned row = i / MOST_ROWS, follower = i % MOST_ROWS;
-        unsigned gap = made->deadlines[row] == 1 ? 1 : 4 - follower;
+        unsigned row = i / MOST_ROWS, follower = i % MOST_ROWS, deadline = made->deadlines[row];
+        unsigned gap = deadline == ticks->shortest ? deadline : deadline + 2 - follower;
         made->gaps[row][follower] = set >> i & 1 ? gap : 0;
     }
 }
 
 /* Up to two rows every choice is made; of three rows the choices of fixed tasks take turns. */
-static void take_all(plan *made, unsigned number)
+static void take_all(plan *made, const scale *ticks, unsigned number)
 {
     if (made->rows < MOST_ROWS) {
         made->tasks = take(&number, TASKS);
-        take_lengths(made, &number);
-        take_deadlines(made, &number);
-        take_gaps(made, &number);
+        take_lengths(made, ticks, &number);
+        take_deadlines(made, ticks, &number);
+        take_gaps(made, ticks, &number);
     } else {
         made->tasks = number % TASKS;
         unsigned set = take(&number, SETS);
-        take_deadlines(made, &number);
-        take_lengths(made, &number);
-        shape_gaps(made, set);
+        take_deadlines(made, ticks, &number);
+        take_lengths(made, ticks, &number);
+        shape_gaps(made, ticks, set);
     }
 }
 
@@ -119,13 +129,13 @@ static void take_fallbacks(plan *made, const family *chosen, unsigned number)
 
 plan make_plan(const family *chosen, unsigned rows, unsigned number)
 {
-    plan made = {.mode_lengths = {1, 1, 1}, .rows = rows};
+    plan made = {.mode_lengths = {1, 1, 1}, .rows = rows, .horizon = chosen->times->horizon};
     take_fallbacks(&made, chosen, number);
     for (unsigned i = 0; i < rows; i++) {
         made.speeds[i] = chosen->speeds[i];
         made.modes[i] = chosen->modes[i];
     }
-    take_all(&made, number);
+    take_all(&made, chosen->times, number);
     return made;
 }
 
@@ -153,13 +163,22 @@ static void print_fallbacks(const family *chosen)
     printf(chosen->has_bands ? ", in turn\n" : " their boundaries\n");
 }
 
+static void print_times(const scale *ticks)
+{
+    unsigned shortest = ticks->shortest;
+    printf("every follower set, job lengths of a mode %u to %u, deadlines %u to %u\n", shortest, shortest + LENGTHS - 1, shortest,
+           shortest + ticks->deadlines - 1);
+    printf("gaps of one and two rows: the deadline, or longer by %u or %u\n", ticks->longer[1], ticks->longer[2]);
+    printf("gaps of three rows: the deadline out of a row with deadline %u; out of others 2, 1 and 0 longer to rows 0, 1 and 2\n",
+           shortest);
+    printf("of the plans of one, two and three rows one in %u, %u and %u\n", ticks->steps[0], ticks->steps[1], ticks->steps[2]);
+}
+
 void print_bounds(const family *chosen)
 {
     printf("search %s: 1 to %d rows, %s\n", chosen->name, MOST_ROWS, chosen->rows);
-    printf("every follower set, job lengths of a mode 1 to %d, deadlines 1 to %d\n", LENGTHS, DEADLINES);
+    print_times(chosen->times);
     print_fallbacks(chosen);
-    printf("gaps of one and two rows: the deadline, one more or two more\n");
-    printf("gaps of three rows: 1 out of a row with deadline 1; 4, 3 and 2 to rows 0, 1 and 2 out of one with deadline 2\n");
     printf("fixed tasks: none, or the first ones of");
     for (unsigned i = 0; i < MOST_TASKS; i++)
         printf(" (%u, %u, %u)", fixed_tasks[i].length, fixed_tasks[i].period, fixed_tasks[i].deadline);

@@ -1,6 +1,7 @@
 /*
  * Holds all answers of the library on a family of small sheets, and all memory that it was lent, to what every allowed sequence of
- * rows shows. The sequences are found by brute force, without the library and without a table.
+ * rows shows. The sequences are found by brute force, without the library and without a table. Most families have short times; that
+ * of times around eight reaches lines of a table that are filled eight at once.
  */
 #include <inttypes.h>
 #include <stdio.h>
@@ -13,8 +14,8 @@
 /* What is told; more than this is counted only. */
 enum { MOST_TOLD = 20 };
 
-/* Cells that are lent to each call: some more than three rows need. */
-enum { LENT_CELLS = 40, CELL = sizeof(uint32_t) };
+/* Each call is lent so many cells more than three rows need. */
+enum { MORE_CELLS = 10, CELL = sizeof(uint32_t) };
 
 typedef struct {
     uint64_t sheets;
@@ -36,6 +37,11 @@ typedef struct {
     area output;
     counts counted;
 } search;
+
+static size_t lent_cells(unsigned horizon)
+{
+    return MOST_ROWS * (horizon + 1) + MORE_CELLS;
+}
 
 /* What a fixed task needs up to an interval, as docs/FORMAT.md has it. */
 static int64_t demand_of(const fixed_task *task, int64_t interval)
@@ -215,7 +221,7 @@ static const char *memory_fault(const search *now, call asked, uint64_t number)
 static void compare_call(search *now, call asked, uint64_t number)
 {
     outcome must = must_answer(now, asked, number);
-    lend(&now->cells, LENT_CELLS * CELL);
+    lend(&now->cells, lent_cells(now->made.horizon) * CELL);
     if (gives_witness(asked))
         lend(&now->witness, MOST_JOBS);
     outcome got = ask(asked, &now->sheet, number, &now->cells, &now->witness);
@@ -260,13 +266,13 @@ static void compare_plan(search *now)
     now->size = write_plan(&now->made, now->bytes);
     find_all(&now->made, &now->found);
     lend_copy(&now->sheet, now->bytes, now->size);
-    for (uint64_t interval = 0; interval <= HORIZON; interval++) {
+    for (uint64_t interval = 0; interval <= now->made.horizon; interval++) {
         compare_call(now, DEMAND, interval);
         compare_call(now, MARGIN, interval);
         compare_call(now, VERDICT_BY_INTERVAL, interval);
         compare_call(now, EXPLAIN, interval);
     }
-    for (uint64_t amount = 1; amount <= LARGEST; amount++) {
+    for (uint64_t amount = 1; amount <= now->made.horizon; amount++) {
         compare_call(now, SHORTEST, amount);
         compare_call(now, VERDICT_BY_AMOUNT, amount - 1);
     }
@@ -281,12 +287,12 @@ static void compare_plan(search *now)
  */
 static void print_counts(const family *chosen, counts counted)
 {
-    uint64_t intervals = counted.sheets * (HORIZON + 1);
+    unsigned horizon = chosen->times->horizon;
+    uint64_t intervals = counted.sheets * (horizon + 1);
     printf("%" PRIu64 " sheets, %" PRIu64 " intervals, %" PRIu64 " amounts, %" PRIu64 " sequences, ", counted.sheets, intervals,
-           counted.sheets * LARGEST, counted.sequences);
+           counted.sheets * horizon, counted.sequences);
     printf("%" PRIu64 " answers, %" PRIu64 " cells, %" PRIu64 " bytes\n", counted.answers,
-           (counted.answers - counted.sheets) * LENT_CELLS,
-           2 * intervals * MOST_JOBS);
+           (counted.answers - counted.sheets) * lent_cells(horizon), 2 * intervals * MOST_JOBS);
     printf("explained: %" PRIu64 " that hold; overrun by the engine task %" PRIu64 ", by fixed tasks %" PRIu64 ", together %" PRIu64 "\n",
            counted.causes[MARNIPODE_CAUSE_NONE], counted.causes[MARNIPODE_CAUSE_ENGINE], counted.causes[MARNIPODE_CAUSE_FIXED],
            counted.causes[MARNIPODE_CAUSE_TOGETHER]);
@@ -296,7 +302,7 @@ static void print_counts(const family *chosen, counts counted)
 static void compare_family(search *now, const family *chosen)
 {
     for (unsigned rows = 1; rows <= MOST_ROWS; rows++) {
-        for (unsigned number = 0; number < plans_of(rows); number++) {
+        for (unsigned number = 0; number < plans_of(chosen, rows); number += chosen->times->steps[rows - 1]) {
             now->made = make_plan(chosen, rows, number);
             compare_plan(now);
         }
@@ -312,12 +318,12 @@ int main(int argc, char **argv)
         return 2;
     }
     now.sheet = make_area(MOST_PLAN_FILE, 0);
-    now.cells = make_area(LENT_CELLS * CELL, 1);
+    now.cells = make_area(lent_cells(MOST_HORIZON) * CELL, 1);
     now.witness = make_area(MOST_JOBS, 2);
     now.output = make_area(MOST_PLAN_FILE, 3);
     print_bounds(chosen);
-    printf("intervals and horizons 0 to %d, amounts 1 to %d; each call is lent %d cells, demand and explain %d bytes\n", HORIZON,
-           LARGEST, LENT_CELLS, MOST_JOBS);
+    printf("intervals and horizons 0 to %u, amounts 1 to %u; each call is lent %zu cells, demand and explain %d bytes\n",
+           chosen->times->horizon, chosen->times->horizon, lent_cells(chosen->times->horizon), MOST_JOBS);
     compare_family(&now, chosen);
     print_counts(chosen, now.counted);
     return now.counted.wrong == 0 ? EXIT_SUCCESS : EXIT_FAILURE;

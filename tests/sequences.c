@@ -30,12 +30,12 @@ static bool extend(const plan *made, const sequence *before, unsigned row, seque
 }
 
 /*
- * Whether a sequence is looked at: it ends by the horizon, or its amount was too small before its last row. A start of a sequence
+ * Whether a sequence is looked at: it ends by the horizon, or its amount was below that before its last row. A start of a sequence
  * ends no later than the sequence, so that all that end by the horizon are met, and for each amount one that reaches it first.
  */
-static bool is_looked_at(const sequence *met)
+static bool is_looked_at(const plan *made, const sequence *met)
 {
-    return met->end <= HORIZON || met->amount_before < LARGEST;
+    return met->end <= made->horizon || met->amount_before < made->horizon;
 }
 
 /* Sequences come in row order, so the first that raises a demand stays its witness until a larger one comes. */
@@ -49,10 +49,10 @@ static void enter_interval(findings *found, const sequence *met, unsigned interv
 }
 
 /* The cells and demands that a sequence raises: from its end time on. */
-static void enter_intervals(findings *found, const sequence *met, unsigned rows)
+static void enter_intervals(const plan *made, findings *found, const sequence *met)
 {
-    for (unsigned interval = met->end; interval <= HORIZON; interval++) {
-        uint32_t *cell = &found->best[interval * rows + met->rows[0]];
+    for (unsigned interval = met->end; interval <= made->horizon; interval++) {
+        uint32_t *cell = &found->best[interval * made->rows + met->rows[0]];
         if (*cell < met->amount)
             *cell = met->amount;
         enter_interval(found, met, interval);
@@ -60,10 +60,10 @@ static void enter_intervals(findings *found, const sequence *met, unsigned rows)
 }
 
 /* The cells and shortest times that a sequence lowers: up to its amount. */
-static void enter_amounts(findings *found, const sequence *met, unsigned rows)
+static void enter_amounts(const plan *made, findings *found, const sequence *met)
 {
-    for (unsigned i = 0; i < met->amount && i < LARGEST; i++) {
-        uint32_t *cell = &found->least[i * rows + met->rows[0]];
+    for (unsigned i = 0; i < met->amount && i < made->horizon; i++) {
+        uint32_t *cell = &found->least[i * made->rows + met->rows[0]];
         if (met->end < *cell)
             *cell = met->end;
         if (met->end < found->shortest[i])
@@ -75,11 +75,11 @@ static void meet_all_from(const plan *made, findings *found, const sequence *bef
 {
     for (unsigned row = 0; row < made->rows; row++) {
         sequence met;
-        if (!extend(made, before, row, &met) || !is_looked_at(&met))
+        if (!extend(made, before, row, &met) || !is_looked_at(made, &met))
             continue;
         found->sequences++;
-        enter_intervals(found, &met, made->rows);
-        enter_amounts(found, &met, made->rows);
+        enter_intervals(made, found, &met);
+        enter_amounts(made, found, &met);
         meet_all_from(made, found, &met);
     }
 }

@@ -5,14 +5,15 @@ use mathlib.Core.Path.{_≡_, refl, sym, ap, _∙_, subst, subst⁻¹}
 use mathlib.Core.Bool.{Bool, true, false, true≢false}
 use mathlib.Core.List.{List, [], _∷_}
 use lib.Dec.{ltb, eqb}
-use borrow.Author.Tests.{lt-ltb, le-ltb, eq-eqb, ne-eqb, eqb-true, eqb-false}
+use borrow.Author.Tests.{lt-ltb, le-ltb, eq-eqb, ne-eqb, eqb-true, eqb-false, ltb-false}
 use Rattle.meaning.specs.Demand.{longestTime}
 use Rattle.fields.specs.Deciding.{Rule, _when_, pick}
 use Rattle.fields.proofs.Deciding.{yes, no, neither, Kept}
 use Rattle.sheet.specs.Judging.{judged}
+use Rattle.sheet.specs.Outline.{Outlined}
 use Rattle.sheet.specs.declared.Answer.{Answer}
 use Rattle.sheet.specs.declared.Answer.the-variants.{Accepted, Refused}
-use Rattle.sheet.specs.declared.Judged.{Judged}
+use Rattle.sheet.specs.declared.Outline.{Outline}
 use Rattle.beginning.specs.Beginning.{Begins, badAmount, roomFor, callRules, intervalRules, Begun}
 
 accepted-not-refused : (number place : ℕ) → Accepted ≡ Refused number place → ⊥
@@ -88,72 +89,75 @@ module _ (amount : ℕ) where
   pub amount-some : badAmount amount ≡ false → 1 ≤ amount
   amount-some good = let some : amount ≡ 0 → ⊥ = eqb-false amount 0 (neither (eqb amount 0) (ltb (longestTime + 1) amount) good .0) in omega arith
 
+  -- and no more than the longest time and one
+  pub amount-most : badAmount amount ≡ false → amount ≤ longestTime + 1
+  amount-most good = ltb-false _ _ (neither (eqb amount 0) (ltb (longestTime + 1) amount) good .1)
+
   -- one from 1 to the longest time and one is in range
   pub amount-in-range : 1 ≤ amount → amount ≤ longestTime + 1 → badAmount amount ≡ false
   amount-in-range some few = sym (no _ _ _ _ (ne-eqb amount 0 (λ (z : amount ≡ 0). omega arith)) (sym (le-ltb _ _ few)))
 
-module _ (bytes : List ℕ) (outOfRange : Bool) (lines room : ℕ) (begun : Judged) where
+module _ (bytes : List ℕ) (outOfRange : Bool) (lines room : ℕ) (places : List ℕ) (begun : Outline) where
   -- a refused sheet
   pub begin-refused : (number place : ℕ) → judged bytes .answer ≡ Refused number place
-      → begun .answer ≡ Refused number place → Begun bytes (callRules bytes outOfRange lines room) begun
+      → begun .answer ≡ Refused number place → Begun bytes (callRules bytes outOfRange lines room) places begun
   unfolding Begun
   begin-refused number place e r = rw e r
 
   -- an accepted one, and a number out of range
   pub begin-beyond : judged bytes .answer ≡ Accepted → outOfRange ≡ true
-      → begun .answer ≡ Refused 11 0 → Begun bytes (callRules bytes outOfRange lines room) begun
+      → begun .answer ≡ Refused 11 0 → Begun bytes (callRules bytes outOfRange lines room) places begun
   unfolding Begun pick
   begin-beyond e range r = rw (e, range) r
 
   -- and too few cells
   pub begin-short : judged bytes .answer ≡ Accepted → outOfRange ≡ false → room < roomFor bytes lines
-      → begun .answer ≡ Refused 12 0 → Begun bytes (callRules bytes outOfRange lines room) begun
+      → begun .answer ≡ Refused 12 0 → Begun bytes (callRules bytes outOfRange lines room) places begun
   unfolding Begun pick
   begin-short e range short r = rw (e, range, lt-ltb room (roomFor bytes lines) short) r
 
   -- and nothing in the way
   pub begin-goes-on : judged bytes .answer ≡ Accepted → outOfRange ≡ false → roomFor bytes lines ≤ room
-      → begun ≡ judged bytes → Begun bytes (callRules bytes outOfRange lines room) begun
+      → Outlined bytes places begun → Begun bytes (callRules bytes outOfRange lines room) places begun
   unfolding Begun
   begin-goes-on e range enough = begins-answering (judged bytes .answer) (callRules bytes outOfRange lines room) _ _ e (range, (le-ltb _ _ enough, tt))
 
   -- where the number is out of range, the room does not matter
-  room-aside : (other : ℕ) → outOfRange ≡ true → Begun bytes (callRules bytes true other room) begun
-      → Begun bytes (callRules bytes outOfRange lines room) begun
+  room-aside : (other : ℕ) → outOfRange ≡ true → Begun bytes (callRules bytes true other room) places begun
+      → Begun bytes (callRules bytes outOfRange lines room) places begun
   unfolding Begun pick
   room-aside other range b = rw range (go (judged bytes .answer) b)
     where
       go : (answer : Answer)
-          → Begins answer (callRules bytes true other room) (λ n p. begun .answer ≡ Refused n p) (begun ≡ judged bytes)
-          → Begins answer (callRules bytes true lines room) (λ n p. begun .answer ≡ Refused n p) (begun ≡ judged bytes)
+          → Begins answer (callRules bytes true other room) (λ n p. begun .answer ≡ Refused n p) (Outlined bytes places begun)
+          → Begins answer (callRules bytes true lines room) (λ n p. begun .answer ≡ Refused n p) (Outlined bytes places begun)
       go (Refused n p) q = q
       go Accepted q = q
 
   -- a call that counts no lines where the number is out of range, and else as many as it takes
   pub begun-in-lines : (counted : ℕ) → counted ≡ pick outOfRange 0 lines → (outOfRange ≡ false → 1 ≤ lines)
-      → Begun bytes (callRules bytes (eqb counted 0) counted room) begun → Begun bytes (callRules bytes outOfRange lines room) begun
+      → Begun bytes (callRules bytes (eqb counted 0) counted room) places begun → Begun bytes (callRules bytes outOfRange lines room) places begun
   unfolding pick
   begun-in-lines counted e some b = go outOfRange refl
     where
-      go : (o : Bool) → outOfRange ≡ o → Begun bytes (callRules bytes outOfRange lines room) begun
+      go : (o : Bool) → outOfRange ≡ o → Begun bytes (callRules bytes outOfRange lines room) places begun
       go true o =
           let none : counted ≡ 0 = e ∙ ap (λ (x : Bool). pick x 0 lines) o in
-          room-aside counted o (subst (λ (x : Bool). Begun bytes (callRules bytes x counted room) begun) (eq-eqb counted 0 none) b)
+          room-aside counted o (subst (λ (x : Bool). Begun bytes (callRules bytes x counted room) places begun) (eq-eqb counted 0 none) b)
       go false o =
           let all : counted ≡ lines = e ∙ ap (λ (x : Bool). pick x 0 lines) o in
           let more : eqb counted 0 ≡ false = ne-eqb counted 0 (λ (z : counted ≡ 0). omega (arith, some o)) in
-          subst (λ (x : Bool). Begun bytes (callRules bytes x lines room) begun) (more ∙ sym o)
-          (subst (λ (n : ℕ). Begun bytes (callRules bytes (eqb counted 0) n room) begun) all b)
+          subst (λ (x : Bool). Begun bytes (callRules bytes x lines room) places begun) (more ∙ sym o)
+          (subst (λ (n : ℕ). Begun bytes (callRules bytes (eqb counted 0) n room) places begun) all b)
 
-module _ (bytes : List ℕ) (rules : List Rule) (begun : Judged) (b : Begun bytes rules begun) where
+module _ (bytes : List ℕ) (rules : List Rule) (places : List ℕ) (begun : Outline) (b : Begun bytes rules places begun) where
   -- a call that begins with a refusal gives it
   pub begun-refused : (number place : ℕ) → begun .answer ≡ Refused number place
       → (R : ℕ → ℕ → Type 0) (A : Type 0) → R number place → Begins (judged bytes .answer) rules R A
   unfolding Begun
   begun-refused number place e R A r =
       begins-follows (judged bytes .answer) rules _ R _ A told
-      (λ (i : judged bytes .answer ≡ Accepted) (q : begun ≡ judged bytes).
-      absurd (accepted-not-refused number place (sym i ∙ sym (ap (λ (j : Judged). j .answer) q) ∙ e)))
+      (λ (i : judged bytes .answer ≡ Accepted) (q : Outlined bytes places begun). absurd (accepted-not-refused number place (sym i ∙ sym (q .answer) ∙ e)))
       b
     where
       told : (n p : ℕ) → begun .answer ≡ Refused n p → R n p
@@ -163,9 +167,9 @@ module _ (bytes : List ℕ) (rules : List Rule) (begun : Judged) (b : Begun byte
           let same-place : place ≡ p = cc in
           subst (λ (x : ℕ). R n x) same-place (subst (λ (x : ℕ). R x place) same-number r)
 
-  -- a call that begins without one has the judged sheet and breaks no rule
-  pub begun-accepted : begun .answer ≡ Accepted → (begun ≡ judged bytes) × (judged bytes .answer ≡ Accepted) × Kept rules
+  -- a call that begins without one has the judged sheet in outline and breaks no rule
+  pub begun-accepted : begun .answer ≡ Accepted → (Outlined bytes places begun) × (judged bytes .answer ≡ Accepted) × Kept rules
   unfolding Begun
   begun-accepted e =
-      came-to-answer (judged bytes .answer) rules _ (begun ≡ judged bytes)
+      came-to-answer (judged bytes .answer) rules _ (Outlined bytes places begun)
       (λ n p (q : begun .answer ≡ Refused n p). accepted-not-refused n p (sym e ∙ q)) b

@@ -11,9 +11,10 @@ use Rattle.meaning.specs.Fixed.{Task}
 use Rattle.fields.specs.Deciding.{Rule, _when_, _or_, judgedBy}
 use Rattle.sheet.specs.Judging.{judged}
 use Rattle.sheet.specs.Meaning.{graphOf, tasksOf}
+use Rattle.sheet.specs.Outline.{Outlined}
 use Rattle.sheet.specs.declared.Answer.{Answer}
 use Rattle.sheet.specs.declared.Answer.the-variants as sheet-case
-use Rattle.sheet.specs.declared.Judged.{Judged}
+use Rattle.sheet.specs.declared.Outline.{Outline}
 
 -- the graph and the fixed tasks of a sheet's bytes, and how many rows it has
 abbrev pub graph : List ℕ → Graph
@@ -57,9 +58,9 @@ abbrev pub Begins : Answer → List Rule → (ℕ → ℕ → Type 0) → Type 0
 Begins (sheet-case.Refused number place) rules Refuses Answers = Refuses number place
 Begins sheet-case.Accepted rules Refuses Answers = judgedBy (λ number. Refuses number 0) rules Answers
 
--- what a call has in hand once it has begun: the judged sheet where it may go on, else the refusal that stands first
-unfoldable pub Begun : List ℕ → List Rule → Judged → Type 0
-Begun bytes rules begun =
+-- what a call has in hand once it has begun: the judged sheet in outline where it may go on, else the refusal that stands first
+unfoldable pub Begun : List ℕ → List Rule → List ℕ → Outline → Type 0
+Begun bytes rules places begun =
     Begins (judged bytes .answer) rules
     (λ number place. begun .answer ≡ sheet-case.Refused number place)
-    (begun ≡ judged bytes)
+    (Outlined bytes places begun)

@@ -7,12 +7,14 @@ use lib.ListN.{length, getD, take, length-take, List·getD-eq-default}
 use lib.Seq.{getD-take}
 use borrow.Author.Tests.{lt-ltb, le-ltb}
 use Rattle.fields.specs.Deciding.{pick}
+use Rattle.fields.specs.Limits.{rowLimit}
 use Rattle.fields.specs.Values.{emptySheet, noMode, noTask}
 use Rattle.sheet.specs.Judging.{judged}
 use Rattle.sheet.specs.Meaning.{modesIn, rowOf, gapOf}
 use Rattle.sheet.specs.Proper.{Bytes}
 use Rattle.modes.specs.Modes.{jobLength}
 use Rattle.sheet.proofs.Accepted.{accepted-proper}
+use Rattle.sheet.proofs.Counts.{rows-within}
 use Rattle.sheet.proofs.Refusals.{refused-empty}
 use Rattle.sheet.specs.declared.Answer.{Answer}
 use Rattle.sheet.specs.declared.Answer.the-variants.{Accepted, Refused}
@@ -43,6 +45,12 @@ module _ (bytes : List ℕ) (told : Judged) (is : told ≡ judged bytes) (number
   pub task-past : told .sheet .tally .tasks ≤ number → noTask ≡ taskNumbered bytes number
   unfolding taskNumbered
   task-past h = rw (← is) (sym (past-count (told .sheet .tally .tasks) (told .sheet .tasks) number noTask h))
+
+  -- a row that is counted stands in the array
+  pub row-held : Bytes bytes → number < told .sheet .tally .rows → number < rowLimit
+  row-held are h =
+      let most : told .sheet .tally .rows ≤ rowLimit = rw is (rows-within bytes are) in
+      omega arith
 
   -- a row, with its job length
   pub row-told : (row : Row) (length : Ticks) → row ≡ rowOf (told .sheet) number → length ≡ jobLength (modesIn (told .sheet)) (row .speed) → number < told .sheet .tally .rows

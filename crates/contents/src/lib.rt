@@ -6,7 +6,6 @@ use fields::values::Mode;
 use fields::values::Row;
 use fields::values::Sheet;
 use fields::values::Task;
-use fields::values::row_of;
 use modes::job_length;
 use sets::WIDTH;
 use sets::below_row;
@@ -60,8 +59,7 @@ pub fn row_numbered(bytes: &[u8], number: usize) -> RowValues
         };
     }
     let modes = sheet.modes;
-    let rows = sheet.rows;
-    let row = row_of(rows, number);
+    let row = sheet.rows[number];
     let speed = row.speed;
     let deadline = row.deadline;
     let length = job_length(modes, tally.modes, speed);
@@ -83,8 +81,7 @@ pub fn gap_numbered(bytes: &[u8], from: usize, to: usize) -> Ticks
     if tally.rows <= from {
         return Ticks(0);
     }
-    let rows = sheet.rows;
-    gap_in(bytes, row_of(rows, from), to)
+    gap_in(bytes, sheet.rows[from], to)
 }
 
 // The gap from a row to a follower, 0 where it is none. Gaps stand one for each follower, so the followers below give its place.

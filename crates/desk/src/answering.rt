@@ -4,16 +4,16 @@ use crate::MarginAnswer;
 use crate::ShortestAnswer;
 use crate::VerdictAnswer;
 use fields::values::Sheet;
+use filling::fill;
 use overruns::sweep::Swept;
 use overruns::sweep::sweep;
 use overruns::tasks::fixed_sum;
+use sheet::Head;
 use tables::Table;
 use tables::amount::NO_TIME;
-use tables::amount::fill_by_amount;
 use tables::amount::shortest_of;
-use tables::fill;
 use tables::interval::demand_of;
-use tables::interval::fill_by_interval;
+use tables::interval::job_lengths;
 use witness::Shown;
 use witness::show_witness;
 ghost use mathlib.Core.Path.{_≡_};
@@ -21,8 +21,7 @@ ghost use Prim.Native.Nat.{_+_, _^_, _≤_, _<_};
 ghost use lib.IntN.{pos, _-ℤ_};
 ghost use lib.ListN.{length};
 ghost use Rattle.meaning.specs.Demand.{longestTime};
-ghost use Rattle.sheet.specs.Judging.{judged};
-ghost use Rattle.sheet.specs.Ready.{Ready};
+ghost use Rattle.sheet.specs.Outline.{Handed};
 ghost use Rattle.overruns.specs.Sweeping.{verdictOf};
 ghost use Rattle.beginning.specs.Beginning.{roomFor};
 ghost use Rattle.desk.specs.Calls.{DemandAnswers, MarginAnswers, ShortestAnswers, VerdictAnswers, verdictAnswer};
@@ -31,21 +30,23 @@ ghost use Rattle.desk.specs.WhichTable.{filledBy};
 // The table by interval, then the largest cell of its last line and the witness, or rule 13.
 pub(crate) fn demand_in(
     bytes: &[u8],
-    sheet: Sheet,
+    head: Head,
+    places: &[usize; Sheet::ROWS],
     t: usize,
     cells: &mut [u32],
     area: &mut [u8],
 ) -> DemandAnswer
-    requires { ⌜ Ready (now bytes) sheet ⌝ }
-    requires { ⌜ sheet ≡ judged (now bytes) .sheet ⌝ }
+    requires { ⌜ Handed (now bytes) head (now places) ⌝ }
     requires { ⌜ t ≤ longestTime ⌝ }
     requires { ⌜ roomFor (now bytes) (t + 1) ≤ length (now cells) ⌝ }
     ensures { λ r. ⌜ DemandAnswers (now (bytes .entry)) t (now (cells .entry)) (now (area .entry)) r (now (cells .exit)) (now (area .exit)) ⌝ }
 {
-    fill_by_interval(bytes, sheet, cells, t);
-    let tally = sheet.tally;
-    let amount = demand_of(cells, tally.rows, t);
-    match show_witness(bytes, sheet, cells, t, area) {
+    let tally = head.tally;
+    let n = tally.rows;
+    let lengths = job_lengths(bytes, head, places);
+    fill(Table::Interval, bytes, places, &lengths, n, cells, t + 1);
+    let amount = demand_of(cells, n, t);
+    match show_witness(bytes, places, &lengths, n, cells, t, area) {
         Shown::Rows(count) => DemandAnswer::Found {
             amount: amount,
             count: count,
@@ -58,17 +59,25 @@ pub(crate) fn demand_in(
 }
 
 // The table by interval, then what both demands leave of the interval.
-pub(crate) fn margin_in(bytes: &[u8], sheet: Sheet, t: usize, cells: &mut [u32]) -> MarginAnswer
-    requires { ⌜ Ready (now bytes) sheet ⌝ }
-    requires { ⌜ sheet ≡ judged (now bytes) .sheet ⌝ }
+pub(crate) fn margin_in(
+    bytes: &[u8],
+    head: Head,
+    places: &[usize; Sheet::ROWS],
+    t: usize,
+    cells: &mut [u32],
+) -> MarginAnswer
+    requires { ⌜ Handed (now bytes) head (now places) ⌝ }
     requires { ⌜ t ≤ longestTime ⌝ }
     requires { ⌜ roomFor (now bytes) (t + 1) ≤ length (now cells) ⌝ }
     ensures { λ r. ⌜ MarginAnswers (now (bytes .entry)) t (now (cells .entry)) r (now (cells .exit)) ⌝ }
 {
-    fill_by_interval(bytes, sheet, cells, t);
-    let tally = sheet.tally;
-    let amount = demand_of(cells, tally.rows, t) as u64;
-    let fixed = fixed_sum(sheet, t);
+    let tally = head.tally;
+    let n = tally.rows;
+    let lengths = job_lengths(bytes, head, places);
+    fill(Table::Interval, bytes, places, &lengths, n, cells, t + 1);
+    let amount = demand_of(cells, n, t) as u64;
+    let tasks = head.tasks;
+    let fixed = fixed_sum(tasks, tally.tasks, t);
     let margin = less(t as u64, amount + fixed);
     MarginAnswer::Found { margin: margin }
 }
@@ -76,19 +85,22 @@ pub(crate) fn margin_in(bytes: &[u8], sheet: Sheet, t: usize, cells: &mut [u32])
 // The table by amount, then the smallest time of its last line; rule 14 where it has none.
 pub(crate) fn shortest_in(
     bytes: &[u8],
-    sheet: Sheet,
+    head: Head,
+    places: &[usize; Sheet::ROWS],
     amount: usize,
     cells: &mut [u32],
 ) -> ShortestAnswer
-    requires { ⌜ Ready (now bytes) sheet ⌝ }
-    requires { ⌜ sheet ≡ judged (now bytes) .sheet ⌝ }
+    requires { ⌜ Handed (now bytes) head (now places) ⌝ }
     requires { ⌜ 1 ≤ amount ⌝ }
+    requires { ⌜ amount ≤ longestTime + 1 ⌝ }
     requires { ⌜ roomFor (now bytes) amount ≤ length (now cells) ⌝ }
     ensures { λ r. ⌜ ShortestAnswers (now (bytes .entry)) amount (now (cells .entry)) r (now (cells .exit)) ⌝ }
 {
-    fill_by_amount(bytes, sheet, cells, amount);
-    let tally = sheet.tally;
-    let time = shortest_of(cells, tally.rows, amount);
+    let tally = head.tally;
+    let n = tally.rows;
+    let lengths = job_lengths(bytes, head, places);
+    fill(Table::Amount, bytes, places, &lengths, n, cells, amount);
+    let time = shortest_of(cells, n, amount);
     if time == NO_TIME {
         return ShortestAnswer::Refused {
             number: 14,
@@ -102,18 +114,22 @@ pub(crate) fn shortest_in(
 pub(crate) fn verdict_in(
     table: Table,
     bytes: &[u8],
-    sheet: Sheet,
+    head: Head,
+    places: &[usize; Sheet::ROWS],
     horizon: usize,
     cells: &mut [u32],
 ) -> VerdictAnswer
-    requires { ⌜ Ready (now bytes) sheet ⌝ }
-    requires { ⌜ sheet ≡ judged (now bytes) .sheet ⌝ }
+    requires { ⌜ Handed (now bytes) head (now places) ⌝ }
     requires { ⌜ horizon ≤ longestTime ⌝ }
     requires { ⌜ roomFor (now bytes) (horizon + 1) ≤ length (now cells) ⌝ }
     ensures { λ r. ⌜ VerdictAnswers (filledBy table) (now (bytes .entry)) horizon (now (cells .entry)) r (now (cells .exit)) ⌝ }
 {
-    fill(table, bytes, sheet, cells, horizon);
-    let swept = sweep(table, sheet, cells, horizon);
+    let tally = head.tally;
+    let n = tally.rows;
+    let lengths = job_lengths(bytes, head, places);
+    fill(table, bytes, places, &lengths, n, cells, horizon + 1);
+    let tasks = head.tasks;
+    let swept = sweep(table, tasks, tally.tasks, n, cells, horizon);
     as_answer(swept)
 }
 

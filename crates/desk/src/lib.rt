@@ -7,6 +7,7 @@ use answering::shortest_in;
 use answering::verdict_in;
 use beginning::begin_amount;
 use beginning::begin_interval;
+use fields::values::Sheet;
 use sheet::Answer;
 use tables::Table;
 ghost use Rattle.desk.specs.Calls.{DemandCall, MarginCall, ShortestCall, VerdictCall, VerdictByIntervalCall, VerdictByAmountCall};
@@ -41,9 +42,10 @@ pub enum VerdictAnswer {
 pub fn demand(bytes: &[u8], interval: u64, cells: &mut [u32], area: &mut [u8]) -> DemandAnswer
     ensures { λ r. ⌜ DemandCall (now (bytes .entry)) interval (now (cells .entry)) (now (area .entry)) r (now (cells .exit)) (now (area .exit)) ⌝ }
 {
-    let begun = begin_interval(bytes, interval, cells.len());
+    let mut places = [0usize; Sheet::ROWS];
+    let begun = begin_interval(bytes, interval, cells.len(), &mut places);
     let answer = begun.answer;
-    let sheet = begun.sheet;
+    let head = begun.head;
     match answer {
         Answer::Refused { number, place } => {
             DemandAnswer::Refused {
@@ -51,7 +53,7 @@ pub fn demand(bytes: &[u8], interval: u64, cells: &mut [u32], area: &mut [u8]) -
                 place: place,
             }
         }
-        Answer::Accepted => { demand_in(bytes, sheet, interval as usize, cells, area) }
+        Answer::Accepted => { demand_in(bytes, head, &places, interval as usize, cells, area) }
     }
 }
 
@@ -59,9 +61,10 @@ pub fn demand(bytes: &[u8], interval: u64, cells: &mut [u32], area: &mut [u8]) -
 pub fn margin(bytes: &[u8], interval: u64, cells: &mut [u32]) -> MarginAnswer
     ensures { λ r. ⌜ MarginCall (now (bytes .entry)) interval (now (cells .entry)) r (now (cells .exit)) ⌝ }
 {
-    let begun = begin_interval(bytes, interval, cells.len());
+    let mut places = [0usize; Sheet::ROWS];
+    let begun = begin_interval(bytes, interval, cells.len(), &mut places);
     let answer = begun.answer;
-    let sheet = begun.sheet;
+    let head = begun.head;
     match answer {
         Answer::Refused { number, place } => {
             MarginAnswer::Refused {
@@ -69,7 +72,7 @@ pub fn margin(bytes: &[u8], interval: u64, cells: &mut [u32]) -> MarginAnswer
                 place: place,
             }
         }
-        Answer::Accepted => { margin_in(bytes, sheet, interval as usize, cells) }
+        Answer::Accepted => { margin_in(bytes, head, &places, interval as usize, cells) }
     }
 }
 
@@ -77,9 +80,10 @@ pub fn margin(bytes: &[u8], interval: u64, cells: &mut [u32]) -> MarginAnswer
 pub fn shortest(bytes: &[u8], amount: u64, cells: &mut [u32]) -> ShortestAnswer
     ensures { λ r. ⌜ ShortestCall (now (bytes .entry)) amount (now (cells .entry)) r (now (cells .exit)) ⌝ }
 {
-    let begun = begin_amount(bytes, amount, cells.len());
+    let mut places = [0usize; Sheet::ROWS];
+    let begun = begin_amount(bytes, amount, cells.len(), &mut places);
     let answer = begun.answer;
-    let sheet = begun.sheet;
+    let head = begun.head;
     match answer {
         Answer::Refused { number, place } => {
             ShortestAnswer::Refused {
@@ -87,7 +91,7 @@ pub fn shortest(bytes: &[u8], amount: u64, cells: &mut [u32]) -> ShortestAnswer
                 place: place,
             }
         }
-        Answer::Accepted => { shortest_in(bytes, sheet, amount as usize, cells) }
+        Answer::Accepted => { shortest_in(bytes, head, &places, amount as usize, cells) }
     }
 }
 
@@ -109,9 +113,10 @@ pub fn verdict_by_amount(bytes: &[u8], horizon: u64, cells: &mut [u32]) -> Verdi
 fn verdict(table: Table, bytes: &[u8], horizon: u64, cells: &mut [u32]) -> VerdictAnswer
     ensures { λ r. ⌜ VerdictCall (filledBy table) (now (bytes .entry)) horizon (now (cells .entry)) r (now (cells .exit)) ⌝ }
 {
-    let begun = begin_interval(bytes, horizon, cells.len());
+    let mut places = [0usize; Sheet::ROWS];
+    let begun = begin_interval(bytes, horizon, cells.len(), &mut places);
     let answer = begun.answer;
-    let sheet = begun.sheet;
+    let head = begun.head;
     match answer {
         Answer::Refused { number, place } => {
             VerdictAnswer::Refused {
@@ -119,6 +124,6 @@ fn verdict(table: Table, bytes: &[u8], horizon: u64, cells: &mut [u32]) -> Verdi
                 place: place,
             }
         }
-        Answer::Accepted => { verdict_in(table, bytes, sheet, horizon as usize, cells) }
+        Answer::Accepted => { verdict_in(table, bytes, head, &places, horizon as usize, cells) }
     }
 }

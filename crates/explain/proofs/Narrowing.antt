@@ -5,22 +5,26 @@ use mathlib.Core.List.{List}
 use Prim.Native.Nat.{ℕ, _+_, _-_, _≤_, _<_}
 use native.Mathlib.Nat.{eq-or-lt-of-le}
 use native.Mathlib.Omega.{arith}
-use borrow.Author.Tests.{ltb-false, lt-ltb, le-ltb}
+use borrow.Author.Tests.{ltb-false, lt-ltb, le-ltb, eq-eqb, ne-eqb}
 use lib.Dec.{le→leb}
 use lib.IntN.{ℤ, pos}
 use lib.ListN.{length}
 use lib.Signed.{_≤ℤ_, leZ-yes}
-use Rattle.meaning.specs.Graph.{Graph}
+use Rattle.meaning.specs.Graph.{Graph, Sound}
+use Rattle.meaning.specs.Cells.{ByInterval}
 use Rattle.meaning.specs.Demand.{IsDemand}
 use Rattle.meaning.specs.Fixed.{Task, fixedSum}
 use Rattle.meaning.specs.Verdict.{holds, overrun, IsMargin, IsVerdict}
 use Rattle.meaning.proofs.Margins.{margin-sub, margin-unique}
+use Rattle.fields.specs.Deciding.{pick}
 use Rattle.fields.specs.Limits.{taskLimit}
-use Rattle.tables.specs.Lines.{demandIn}
+use Rattle.tables.specs.Lines.{HasLines, demandIn}
+use Rattle.tables.proofs.Lines.{line-demand}
 use Rattle.overruns.specs.Releases.{Advanced}
 use Rattle.overruns.specs.Sweeping.{overAt}
 use Rattle.overruns.proofs.Releases.{Running}
 use Rattle.overruns.proofs.Sweeping.{Decides, Sweeping, sweeping-start, running-next, sweeping-on, sweeping-overrun, sweeping-holds}
+use Rattle.explain.specs.Looking.{Shows, smallestAt}
 use Rattle.explain.specs.Reasons.{IsSmallestMargin}
 
 -- ---- plain numbers
@@ -76,6 +80,11 @@ module _ (used : ℕ → ℕ) (horizon : ℕ) where
 -- what is asked for at an interval: the engine's demand and fixed demand
 abbrev pub bothAt : (ℕ → ℕ) → List Task → ℕ → ℕ
 bothAt engine tasks u = engine u + fixedSum tasks u
+
+-- the largest cell of a line is the demand at its interval, for a graph of n rows
+pub demand-there : (g : Graph) → Sound g → (n : ℕ) → g .rows ≡ n → (cells : List ℕ) (lines : ℕ) → HasLines n (ByInterval g) cells lines → (t : ℕ) → t < lines
+    → IsDemand g t (demandIn n cells t)
+demand-there g sound n is cells lines = rw (← is) (line-demand g sound cells lines)
 
 -- a graph with this demand at each interval, all of whose intervals up to the horizon are met
 module _ (g : Graph) (tasks : List Task) (horizon : ℕ) (engine : ℕ → ℕ) (demand : (u : ℕ) → u ≤ horizon → IsDemand g u (engine u))
@@ -164,11 +173,11 @@ module _ (n : ℕ) (cells : List ℕ) (count horizon : ℕ) (lengths periods fir
 
     module _ (done : horizon ≤ t) (tasks : List Task) (e : length tasks ≡ count) (start : Running tasks lengths periods first 0 0) where
       -- behind the last interval, where no margin was found: there is no interval
-      pub looking-nothing : at ≡ 0 → horizon ≡ 0
+      looking-nothing : at ≡ 0 → horizon ≡ 0
       looking-nothing none = omega (arith, before .narrowing tasks e start .none none .0)
 
       -- where one was: no interval is overrun, and it is the smallest
-      pub looking-smallest : 1 ≤ at → (g : Graph) → Decides g tasks horizon (overAt n cells) → ((u : ℕ) → u ≤ horizon → IsDemand g u (demandIn n cells u))
+      looking-smallest : 1 ≤ at → (g : Graph) → Decides g tasks horizon (overAt n cells) → ((u : ℕ) → u ≤ horizon → IsDemand g u (demandIn n cells u))
           → IsVerdict g tasks horizon holds × IsSmallestMargin g tasks horizon at (pos least)
       looking-smallest some g decides demand = (
         sweeping-holds (overAt n cells) count horizon lengths periods first dues fixed t (before .sweeping) done g tasks e start decides,
@@ -176,3 +185,13 @@ module _ (n : ℕ) (cells : List ℕ) (count horizon : ℕ) (lengths periods fir
             (λ u a b. ltb-false u (bothAt (demandIn n cells) tasks u) (before .sweeping .met tasks e start u a (omega arith)))
             least at t (before .narrowing tasks e start) done (before .sweeping .within) some,
       )
+
+      -- either way what is found is so
+      pub looking-done : (g : Graph) → Decides g tasks horizon (overAt n cells) → ((u : ℕ) → u ≤ horizon → IsDemand g u (demandIn n cells u))
+          → Shows g tasks horizon (smallestAt least at)
+      unfolding smallestAt pick
+      looking-done g decides demand =
+          ⊎-elim
+          (λ none. rw (eq-eqb at 0 (sym none)) (looking-nothing (sym none)))
+          (λ some. rw (ne-eqb at 0 (λ none. omega (arith, some, none))) (looking-smallest some g decides demand))
+          (eq-or-lt-of-le {n = 0} {m = at} (omega arith))

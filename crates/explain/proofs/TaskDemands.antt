@@ -9,11 +9,11 @@ use lib.ListN.{length, getD, set, take, drop, replicate, length-map}
 use lib.Seq.{length-take-le, take-all, drop-cons, append-snoc, set-at}
 use Rattle.meaning.specs.Fixed.{Task, fixedOf, fixedSum}
 use Rattle.fields.specs.Limits.{taskLimit}
-use Rattle.sheet.specs.Meaning.{timesOf, tasksOf}
+use Rattle.sheet.specs.Meaning.{timesOf}
 use Rattle.fields.specs.Values.{noTask}
-use Rattle.fields.specs.declared.values.Sheet.{Sheet}
-use Rattle.sheet.proofs.ProperTasks.{tasks-count, task-of}
-use Rattle.overruns.specs.Releases.{IsProper}
+use Rattle.fields.specs.declared.values.Task as values
+use Rattle.overruns.specs.Releases.{countedTasks, ProperTasks}
+use Rattle.overruns.proofs.ProperTasks.{tasks-count, task-of}
 use Rattle.explain.specs.Reasons.{eachDemand}
 use Rattle.explain.specs.Calls.{noDemands, allDemands}
 
@@ -40,25 +40,25 @@ demand-stored tasks t i default h few =
     ∙ sym (append-snoc before demand (drop (suc i) noDemands))
     ∙ ap (λ (front : List ℕ). front ++ drop (suc i) noDemands) (sym (each-more tasks t i default h))
 
-module _ (sheet : Sheet) (accepted : IsProper sheet) (t : ℕ) where
-  -- the demand of the sheet's next task is stored
-  pub demand-more : (demands : List ℕ) (i demand : ℕ) → i < sheet .tally .tasks
-      → demands ≡ demandsUpTo (tasksOf sheet) t i → demand ≡ fixedOf (timesOf (getD (sheet .tasks) i noTask)) t
-      → set demands i demand ≡ demandsUpTo (tasksOf sheet) t (i + 1)
+module _ (tasks : List values.Task) (count : ℕ) (proper : ProperTasks tasks count) (t : ℕ) where
+  -- the demand of the next task is stored
+  pub demand-more : (demands : List ℕ) (i demand : ℕ) → i < count
+      → demands ≡ demandsUpTo (countedTasks tasks count) t i → demand ≡ fixedOf (timesOf (getD tasks i noTask)) t
+      → set demands i demand ≡ demandsUpTo (countedTasks tasks count) t (i + 1)
   demand-more demands i demand h so-far e =
-      let next : demand ≡ fixedOf (getD (tasksOf sheet) i (timesOf noTask)) t =
-      e ∙ ap (λ (task : Task). fixedOf task t) (sym (task-of (accepted .0) sheet (accepted .1) i (timesOf noTask) h)) in
+      let next : demand ≡ fixedOf (getD (countedTasks tasks count) i (timesOf noTask)) t =
+      e ∙ ap (λ (task : Task). fixedOf task t) (sym (task-of tasks count proper i (timesOf noTask) h)) in
       ap₂ (λ (list : List ℕ) (v : ℕ). set list i v) so-far next
-      ∙ demand-stored (tasksOf sheet) t i (timesOf noTask) (omega (arith, tasks-count (accepted .0) sheet (accepted .1))) (omega (arith, accepted .1 .tasks-most))
-      ∙ ap (demandsUpTo (tasksOf sheet) t) (sym (add-one i))
+      ∙ demand-stored (countedTasks tasks count) t i (timesOf noTask) (omega (arith, tasks-count tasks count proper)) (omega (arith, proper .most))
+      ∙ ap (demandsUpTo (countedTasks tasks count) t) (sym (add-one i))
 
   -- behind the last task the array is what is promised
-  pub demands-whole : (i : ℕ) → i ≡ sheet .tally .tasks → demandsUpTo (tasksOf sheet) t i ≡ allDemands (tasksOf sheet) t
+  pub demands-whole : (i : ℕ) → i ≡ count → demandsUpTo (countedTasks tasks count) t i ≡ allDemands (countedTasks tasks count) t
   demands-whole i e =
-      let all : length (tasksOf sheet) ≡ i = tasks-count (accepted .0) sheet (accepted .1) ∙ sym e in
-      ap₂ (λ (tasks : List Task) (n : ℕ). eachDemand tasks t ++ drop n noDemands)
-      (take-all i (tasksOf sheet) (omega (arith, all)))
-      (sym (length-map (tasksOf sheet) _ ∙ all))
+      let all : length (countedTasks tasks count) ≡ i = tasks-count tasks count proper ∙ sym e in
+      ap₂ (λ (some : List Task) (n : ℕ). eachDemand some t ++ drop n noDemands)
+      (take-all i (countedTasks tasks count) (omega (arith, all)))
+      (sym (length-map (countedTasks tasks count) _ ∙ all))
 
 -- what the tasks ask for adds up to fixed demand
 pub demands-add-up : (tasks : List Task) (t : ℕ) → sum _+_ 0 (eachDemand tasks t) ≡ fixedSum tasks t

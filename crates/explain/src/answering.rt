@@ -6,8 +6,12 @@ use crate::demands::demands_at;
 use crate::looking::Tightest;
 use crate::looking::look_over;
 use fields::values::Sheet;
+use fields::values::Task;
+use filling::fill;
+use sheet::Head;
+use tables::Table;
 use tables::interval::demand_of;
-use tables::interval::fill_by_interval;
+use tables::interval::job_lengths;
 use witness::Shown;
 use witness::show_witness;
 ghost use mathlib.Core.Path.{_≡_};
@@ -15,11 +19,9 @@ ghost use Prim.Native.Nat.{_+_, _*_, _≤_, _<_};
 ghost use lib.ListN.{length};
 ghost use Rattle.meaning.specs.Demand.{longestTime};
 ghost use Rattle.meaning.specs.Fixed.{fixedSum};
-ghost use Rattle.sheet.specs.Judging.{judged};
-ghost use Rattle.sheet.specs.Meaning.{tasksOf};
-ghost use Rattle.sheet.specs.Ready.{Ready};
+ghost use Rattle.sheet.specs.Outline.{Handed};
 ghost use Rattle.tables.specs.Lines.{demandIn};
-ghost use Rattle.overruns.specs.Releases.{IsProper};
+ghost use Rattle.overruns.specs.Releases.{countedTasks, ProperTasks};
 ghost use Rattle.beginning.specs.Beginning.{roomFor};
 ghost use Rattle.explain.specs.Reasons.{Sums};
 ghost use Rattle.explain.specs.Calls.{withoutDemands, ExplainAnswers};
@@ -28,61 +30,79 @@ ghost use Rattle.explain.specs.Looking.{ToldAt};
 // The whole table by interval, also behind an overrun, then one pass over its lines.
 pub(crate) fn explain_in(
     bytes: &[u8],
-    sheet: Sheet,
+    head: Head,
+    places: &[usize; Sheet::ROWS],
     horizon: usize,
     cells: &mut [u32],
     area: &mut [u8],
 ) -> Explained
-    requires { ⌜ Ready (now bytes) sheet ⌝ }
-    requires { ⌜ sheet ≡ judged (now bytes) .sheet ⌝ }
+    requires { ⌜ Handed (now bytes) head (now places) ⌝ }
     requires { ⌜ horizon ≤ longestTime ⌝ }
     requires { ⌜ roomFor (now bytes) (horizon + 1) ≤ length (now cells) ⌝ }
     ensures { λ r. ⌜ ExplainAnswers (now (bytes .entry)) horizon (now (cells .entry)) (now (area .entry)) r (now (cells .exit)) (now (area .exit)) ⌝ }
 {
-    fill_by_interval(bytes, sheet, cells, horizon);
-    match look_over(sheet, cells, horizon) {
+    let tally = head.tally;
+    let tasks = head.tasks;
+    let n = tally.rows;
+    let lengths = job_lengths(bytes, head, places);
+    fill(
+        Table::Interval,
+        bytes,
+        places,
+        &lengths,
+        n,
+        cells,
+        horizon + 1,
+    );
+    match look_over(tasks, tally.tasks, n, cells, horizon) {
         Tightest::Nothing => without_demands(ExplainAnswer::NoInterval),
         Tightest::Margin { margin, interval } => without_demands(ExplainAnswer::Holds {
             margin: margin,
             interval: interval as u64,
         }),
         Tightest::Overrun { interval, fixed } => {
-            let shown = show_witness(bytes, sheet, cells, interval, area);
-            overrun_at(sheet, interval, fixed, cells, shown)
+            let shown = show_witness(bytes, places, &lengths, n, cells, interval, area);
+            overrun_at(tasks, tally.tasks, n, interval, fixed, cells, shown)
         }
     }
 }
 
 // The numbers of an overrun at t with its witness as it was shown, or rule 13.
-fn overrun_at(sheet: Sheet, t: usize, fixed: u64, cells: &[u32], shown: Shown) -> Explained
-    requires { ⌜ IsProper sheet ⌝ }
+fn overrun_at(
+    tasks: [Task; Sheet::TASKS],
+    count: usize,
+    n: usize,
+    t: usize,
+    fixed: u64,
+    cells: &[u32],
+    shown: Shown,
+) -> Explained
+    requires { ⌜ ProperTasks tasks count ⌝ }
     requires { ⌜ t ≤ longestTime ⌝ }
-    requires { ⌜ sheet .tally .rows * (t + 1) ≤ length (now cells) ⌝ }
-    requires { ⌜ fixed ≡ fixedSum (tasksOf sheet) t ⌝ }
-    requires { ⌜ t < demandIn (sheet .tally .rows) (now cells) t + fixed ⌝ }
-    ensures { λ r. ⌜ ToldAt sheet (now (cells .entry)) t fixed shown r ⌝ }
+    requires { ⌜ n * (t + 1) ≤ length (now cells) ⌝ }
+    requires { ⌜ fixed ≡ fixedSum (countedTasks tasks count) t ⌝ }
+    requires { ⌜ t < demandIn n (now cells) t + fixed ⌝ }
+    ensures { λ r. ⌜ ToldAt n tasks count (now (cells .entry)) t fixed shown r ⌝ }
 {
-    let tally = sheet.tally;
-    let engine = demand_of(cells, tally.rows, t);
+    let engine = demand_of(cells, n, t);
     let cause = cause_of(t as u64, engine as u64, fixed);
     match shown {
         Shown::TooLong => without_demands(ExplainAnswer::Refused {
             number: 13,
             place: 0,
         }),
-        Shown::Rows(count) => {
+        Shown::Rows(rows) => {
             let excess = engine as u64 + fixed - t as u64;
             let answer = ExplainAnswer::Fails {
                 interval: t as u64,
                 cause: cause,
                 engine: engine,
                 excess: excess,
-                count: count,
+                count: rows,
             };
-            let demands = demands_at(sheet, t);
             Explained {
                 answer: answer,
-                demands: demands,
+                demands: demands_at(tasks, count, t),
             }
         }
     }

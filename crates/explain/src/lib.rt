@@ -47,9 +47,10 @@ pub struct Explained {
 pub fn explain(bytes: &[u8], horizon: u64, cells: &mut [u32], area: &mut [u8]) -> Explained
     ensures { λ r. ⌜ ExplainCall (now (bytes .entry)) horizon (now (cells .entry)) (now (area .entry)) r (now (cells .exit)) (now (area .exit)) ⌝ }
 {
-    let begun = begin_interval(bytes, horizon, cells.len());
+    let mut places = [0usize; Sheet::ROWS];
+    let begun = begin_interval(bytes, horizon, cells.len(), &mut places);
     let answer = begun.answer;
-    let sheet = begun.sheet;
+    let head = begun.head;
     match answer {
         Answer::Refused { number, place } => {
             without_demands(ExplainAnswer::Refused {
@@ -57,6 +58,6 @@ pub fn explain(bytes: &[u8], horizon: u64, cells: &mut [u32], area: &mut [u8]) -
                 place: place,
             })
         }
-        Answer::Accepted => { explain_in(bytes, sheet, horizon as usize, cells, area) }
+        Answer::Accepted => { explain_in(bytes, head, &places, horizon as usize, cells, area) }
     }
 }

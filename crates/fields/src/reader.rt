@@ -3,9 +3,9 @@ use crate::table::Kind;
 use crate::table::kind_of;
 use crate::table::refused_tag;
 ghost use mathlib.Core.Path.{_≡_};
-ghost use Prim.Native.Nat.{_+_};
+ghost use Prim.Native.Nat.{_+_, _<_};
 ghost use lib.Dec.{ltb};
-ghost use lib.ListN.{getD};
+ghost use lib.ListN.{getD, length};
 ghost use Rattle.fields.specs.Reading.{wordAt, longAt, fieldAt};
 
 // A field's kind, where its content starts, how many bytes it has and where the next field starts; or a refusal's number and place.
@@ -87,6 +87,22 @@ pub fn word_at(bytes: &[u8], at: usize) -> u16
     let high = byte_at(bytes, at) as u16;
     let low = byte_at(bytes, at + 1) as u16;
     high * 256 + low
+}
+
+// The two bytes at a place that is known to be inside the file, which takes no test.
+pub fn word_inside(bytes: &[u8], at: usize) -> u16
+    requires { ⌜ at + 1 < length (now bytes) ⌝ }
+    ensures { λ r. ⌜ r ≡ wordAt (now (bytes .entry)) at ⌝ }
+{
+    let high = wide(bytes[at]);
+    let low = wide(bytes[at + 1]);
+    high * 256 + low
+}
+
+fn wide(byte: u8) -> u16
+    ensures { λ r. ⌜ (r ≡ byte) × (r < 256) ⌝ }
+{
+    byte as u16
 }
 
 // The four bytes at a place as a number, with zeros past the end.

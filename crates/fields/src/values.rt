@@ -2,13 +2,17 @@
 use crate::units::Rpm;
 use crate::units::Ticks;
 ghost use mathlib.Core.Path.{_≡_};
-ghost use lib.ListN.{getD};
-ghost use Rattle.fields.specs.Values.{emptySheet, noRow, shortSize};
+ghost use Rattle.fields.specs.Values.{emptySheet, shortSize};
 
 // A part of the file: where it starts and how many bytes it has.
 pub struct Part {
     pub start: usize,
     pub size: usize,
+}
+
+impl Part {
+    // An empty part, at the start.
+    pub const NONE: Part = Part { start: 0, size: 0 };
 }
 
 // The job length of speeds up to a boundary, and the fall-back: down to it an engine that slows down can still be in the next mode.
@@ -19,6 +23,13 @@ pub struct Mode {
 }
 
 impl Mode {
+    // A mode of zeros, which an array of modes holds past its count; so do those of rows and of tasks.
+    pub const NONE: Mode = Mode {
+        boundary: Rpm(0),
+        length: Ticks(0),
+        fallback: Rpm(0),
+    };
+
     // How many bytes its shorter form has: a fall-back only where it is not the boundary.
     pub fn short_size(self) -> usize
         ensures { λ r. ⌜ r ≡ shortSize self ⌝ }
@@ -39,11 +50,28 @@ pub struct Row {
     pub gaps: usize,
 }
 
+impl Row {
+    pub const NONE: Row = Row {
+        speed: Rpm(0),
+        deadline: Ticks(0),
+        followers: 0,
+        gaps: 0,
+    };
+}
+
 // A fixed-period task.
 pub struct Task {
     pub length: Ticks,
     pub period: Ticks,
     pub deadline: Ticks,
+}
+
+impl Task {
+    pub const NONE: Task = Task {
+        length: Ticks(0),
+        period: Ticks(0),
+        deadline: Ticks(0),
+    };
 }
 
 // What the rules know of the fields before: the last known tag, how many of each kind, the last boundary with its fall-back, and the last speed.
@@ -55,6 +83,19 @@ pub struct Tally {
     pub top: Rpm,
     pub fallback: Rpm,
     pub fastest: Rpm,
+}
+
+impl Tally {
+    // No field has come yet.
+    pub const NONE: Tally = Tally {
+        last: 0,
+        modes: 0,
+        rows: 0,
+        tasks: 0,
+        top: Rpm(0),
+        fallback: Rpm(0),
+        fastest: Rpm(0),
+    };
 }
 
 // The arrays hold zeros past what the tally counts.
@@ -92,53 +133,12 @@ impl Sheet {
     pub fn empty() -> Sheet
         ensures { λ r. ⌜ r ≡ emptySheet ⌝ }
     {
-        let mode = Mode {
-            boundary: Rpm(0),
-            length: Ticks(0),
-            fallback: Rpm(0),
-        };
-        let row = Row {
-            speed: Rpm(0),
-            deadline: Ticks(0),
-            followers: 0,
-            gaps: 0,
-        };
-        let task = Task {
-            length: Ticks(0),
-            period: Ticks(0),
-            deadline: Ticks(0),
-        };
-        let tally = Tally {
-            last: 0,
-            modes: 0,
-            rows: 0,
-            tasks: 0,
-            top: Rpm(0),
-            fallback: Rpm(0),
-            fastest: Rpm(0),
-        };
-        let label = Part { start: 0, size: 0 };
         Sheet {
-            label: label,
-            tally: tally,
-            modes: [mode; Sheet::MODES],
-            rows: [row; Sheet::ROWS],
-            tasks: [task; Sheet::TASKS],
+            label: Part::NONE,
+            tally: Tally::NONE,
+            modes: [Mode::NONE; Sheet::MODES],
+            rows: [Row::NONE; Sheet::ROWS],
+            tasks: [Task::NONE; Sheet::TASKS],
         }
-    }
-}
-
-// The row of a number, a row of zeros past the array.
-pub fn row_of(rows: [Row; Sheet::ROWS], number: usize) -> Row
-    ensures { λ r. ⌜ r ≡ getD rows number noRow ⌝ }
-{
-    if number < Sheet::ROWS {
-        return rows[number];
-    }
-    Row {
-        speed: Rpm(0),
-        deadline: Ticks(0),
-        followers: 0,
-        gaps: 0,
     }
 }

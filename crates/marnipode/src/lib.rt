@@ -1,6 +1,7 @@
 // The calls for C, as include/marnipode.h declares them: numbers and slices in, a plain struct of numbers out.
 use explain_numbers::ExplainForC;
 use explain_numbers::explain_numbers;
+use fields::values::Sheet;
 use numbers::DemandForC;
 use numbers::FieldForC;
 use numbers::JudgeForC;
@@ -36,7 +37,8 @@ ghost use Rattle.marnipode.specs.Exported.{DemandExport, MarginExport, S
 pub extern "C" fn marnipode_judge(bytes: &[u8]) -> JudgeForC
     ensures { λ r. ⌜ r ≡ flatJudged (judged (now (bytes .entry))) ⌝ }
 {
-    judge_numbers(sheet::judge(bytes))
+    let mut places = [0usize; Sheet::ROWS];
+    judge_numbers(sheet::outline_of(bytes, &mut places))
 }
 
 // A returned part of the bytes cannot be handed to C, so the label is its place and its size.
@@ -44,7 +46,8 @@ pub extern "C" fn marnipode_judge(bytes: &[u8]) -> JudgeForC
 pub extern "C" fn marnipode_label(bytes: &[u8]) -> LabelForC
     ensures { λ r. ⌜ r ≡ flatLabel (judged (now (bytes .entry))) ⌝ }
 {
-    label_numbers(sheet::judge(bytes))
+    let mut places = [0usize; Sheet::ROWS];
+    label_numbers(sheet::outline_of(bytes, &mut places))
 }
 
 #[no_mangle]

@@ -2,6 +2,7 @@
 use Prim.Native.Nat.{ℕ}
 use Rattle.sheet.specs.Judging.{numberOf, placeOf}
 use Rattle.sheet.specs.declared.Judged.{Judged}
+use Rattle.sheet.specs.declared.Outline.{Outline}
 use Rattle.fields.specs.declared.table.Kind.{Kind}
 use Rattle.fields.specs.declared.table.Kind.the-variants.{RefusedTag, LabelField, ModeField, RowField, TaskField, EndField, SkippedField}
 use Rattle.fields.specs.declared.reader.Step.{Step}
@@ -31,9 +32,24 @@ flatJudged judged =
       tasks = tally .tasks;
     }
 
+-- the same of a sheet in outline
+abbrev pub flatOutline : Outline → JudgeForC
+flatOutline outline =
+    let tally = outline .head .tally in
+    record {
+      number = numberOf (outline .answer);
+      place = placeOf (outline .answer);
+      modes = tally .modes;
+      rows = tally .rows;
+      tasks = tally .tasks;
+    }
+
 -- where the label stands
 abbrev pub flatLabel : Judged → LabelForC
 flatLabel judged = record { start = judged .sheet .label .start; size = judged .sheet .label .size }
+
+abbrev pub flatHeading : Outline → LabelForC
+flatHeading outline = record { start = outline .head .label .start; size = outline .head .label .size }
 
 -- the kind of a field: its tag where it is known, the first of the skipped tags where it is skipped
 abbrev pub kindNumber : Kind → ℕ

@@ -6,9 +6,9 @@ use desk::VerdictAnswer;
 use fields::reader::Step;
 use fields::table::Kind;
 use sheet::Answer;
-use sheet::Judged;
+use sheet::Outline;
 ghost use mathlib.Core.Path.{_≡_};
-ghost use Rattle.numbers.specs.Flat.{kindNumber, flatJudged, flatLabel, flatStep, flatDemand, flatMargin, flatShortest, flatVerdict};
+ghost use Rattle.numbers.specs.Flat.{kindNumber, flatOutline, flatHeading, flatStep, flatDemand, flatMargin, flatShortest, flatVerdict};
 
 // In each of them `number` is 0, or the refusal's number with its place, and then all else is 0.
 #[repr(C)]
@@ -65,12 +65,12 @@ pub struct VerdictForC {
     pub overrun: u64,
 }
 
-pub fn judge_numbers(judged: Judged) -> JudgeForC
-    ensures { λ r. ⌜ r ≡ flatJudged judged ⌝ }
+pub fn judge_numbers(outline: Outline) -> JudgeForC
+    ensures { λ r. ⌜ r ≡ flatOutline outline ⌝ }
 {
-    let answer = judged.answer;
-    let sheet = judged.sheet;
-    let tally = sheet.tally;
+    let answer = outline.answer;
+    let head = outline.head;
+    let tally = head.tally;
     let mut judge = JudgeForC {
         number: 0,
         place: 0,
@@ -85,11 +85,11 @@ pub fn judge_numbers(judged: Judged) -> JudgeForC
     judge
 }
 
-pub fn label_numbers(judged: Judged) -> LabelForC
-    ensures { λ r. ⌜ r ≡ flatLabel judged ⌝ }
+pub fn label_numbers(outline: Outline) -> LabelForC
+    ensures { λ r. ⌜ r ≡ flatHeading outline ⌝ }
 {
-    let sheet = judged.sheet;
-    let label = sheet.label;
+    let head = outline.head;
+    let label = head.label;
     LabelForC {
         start: label.start,
         size: label.size,

@@ -1,3 +1,3 @@
 pub mod Releases
-pub mod SheetTasks
+pub mod ProperTasks
 pub mod Sweeping

@@ -19,10 +19,7 @@ use Rattle.meaning.proofs.Existence.{demand-of}
 use Rattle.meaning.proofs.Margins.{meets, overruns, meets-by-amount, overruns-by-amount}
 use Rattle.meaning.proofs.Tests.{lt-or}
 use Rattle.fields.specs.Limits.{taskLimit}
-use Rattle.sheet.specs.Meaning.{graphOf, tasksOf}
-use Rattle.fields.specs.declared.values.Sheet.{Sheet}
 use Rattle.tables.specs.Lines.{HasLines}
-use Rattle.sheet.specs.Ready.{Ready}
 use Rattle.tables.specs.WhichTable.{tableOf}
 use Rattle.overruns.specs.Releases.{Advanced}
 use Rattle.overruns.specs.Sweeping.{overAt, reachedAt, overrunAt}
@@ -62,13 +59,11 @@ module _ (g : Graph) (sound : Sound g) (tasks : List Task) (cells : List ℕ) (h
         (λ e. ⊎-elim (λ l. absurd (false≢true (sym e ∙ rw (lt-ltb t f l)))) (λ l. met .1 (l, leb-false x t (rw (le-ltb t f l) at e))) (lt-or t f)),
       )
 
--- so the test that goes with a table is right of the graph of a sheet
-pub sheet-decides : (table : Table) (bytes : List ℕ) (sheet : Sheet) → Ready bytes sheet → (cells : List ℕ) (horizon : ℕ) → horizon ≤ longestTime
-    → HasLines (sheet .tally .rows) (tableOf table (graphOf bytes sheet)) cells (horizon + 1)
-    → Decides (graphOf bytes sheet) (tasksOf sheet) horizon (overrunAt table (sheet .tally .rows) cells)
-unfolding graphOf
-sheet-decides Interval bytes sheet ready cells horizon short = interval-decides (graphOf bytes sheet) (ready .sound) (tasksOf sheet) cells horizon
-sheet-decides Amount bytes sheet ready cells horizon short = amount-decides (graphOf bytes sheet) (ready .sound) (tasksOf sheet) cells horizon short
+-- so the test that goes with a table is right of a graph
+pub table-decides : (table : Table) (g : Graph) → Sound g → (n : ℕ) → g .rows ≡ n → (tasks : List Task) (cells : List ℕ) (horizon : ℕ) → horizon ≤ longestTime
+    → HasLines n (tableOf table g) cells (horizon + 1) → Decides g tasks horizon (overrunAt table n cells)
+table-decides Interval g sound n is tasks cells horizon short = rw (← is) (interval-decides g sound tasks cells horizon)
+table-decides Amount g sound n is tasks cells horizon short = rw (← is) (amount-decides g sound tasks cells horizon short)
 
 -- ---- the loop
 

@@ -2,18 +2,25 @@
 use mathlib.Core.Path.{_≡_}
 use mathlib.Core.Bool.{cond}
 use mathlib.Core.List.{List}
-use Prim.Native.Nat.{ℕ, zero, suc, _+_, _<_}
+use Prim.Native.Nat.{ℕ, zero, suc, _+_, _≤_, _<_}
 use lib.Dec.{eqb}
-use lib.ListN.{length, getD}
+use lib.ListN.{length, getD, take}
+use Rattle.meaning.specs.Fixed as fixed
 use Rattle.fields.specs.Limits.{taskLimit}
-use Rattle.sheet.specs.Proper.{Proper}
+use Rattle.sheet.specs.Meaning.{eachTask}
+use Rattle.sheet.specs.Proper.{ProperTask}
 use Rattle.fields.specs.Values.{noTask}
-use Rattle.fields.specs.declared.values.Sheet.{Sheet}
+use Rattle.fields.specs.declared.values.Task.{Task}
 use Rattle.overruns.specs.declared.tasks.Times.{Times}
 
--- what the functions of the fixed tasks ask of a sheet: its values are those of an accepted one, whatever its bytes are
-abbrev pub IsProper : Sheet → Type 0
-IsProper sheet = (bytes : List ℕ) × Proper bytes sheet
+-- the first tasks of an array, as many as are counted, each as three numbers
+abbrev pub countedTasks : List Task → ℕ → List fixed.Task
+countedTasks tasks count = eachTask (take count tasks)
+
+-- what the functions of the fixed tasks ask of those that are counted: they are no more than a sheet may have, and their times are in range
+pub record ProperTasks (tasks : List Task) (count : ℕ) : Type 0 where
+  pub most : count ≤ taskLimit
+  pub each : (k : ℕ) → k < count → ProperTask (getD tasks k noTask)
 
 -- what falls due at t: the lengths of those of the first tasks whose next job does
 unfoldable pub workDue : List ℕ → List ℕ → ℕ → ℕ → ℕ
@@ -30,9 +37,9 @@ pub record Advanced (lengths periods old new : List ℕ) (count t work : ℕ) : 
   pub next : (i : ℕ) → i < count → getD new i 0 ≡ dueAfter periods old t i
   pub same-length : length new ≡ length old
 
--- the times of a sheet's tasks, and when their first jobs fall due
-pub record AreTimes (sheet : Sheet) (times : Times) : Type 0 where
-  pub lengths : (i : ℕ) → i < taskLimit → getD (times .lengths) i 0 ≡ getD (sheet .tasks) i noTask .length .0
-  pub periods : (i : ℕ) → i < taskLimit → getD (times .periods) i 0 ≡ getD (sheet .tasks) i noTask .period .0
-  pub dues : (i : ℕ) → i < taskLimit → getD (times .dues) i 0 ≡ getD (sheet .tasks) i noTask .deadline .0
+-- the times of the tasks, and when their first jobs fall due
+pub record AreTimes (tasks : List Task) (times : Times) : Type 0 where
+  pub lengths : (i : ℕ) → i < taskLimit → getD (times .lengths) i 0 ≡ getD tasks i noTask .length .0
+  pub periods : (i : ℕ) → i < taskLimit → getD (times .periods) i 0 ≡ getD tasks i noTask .period .0
+  pub dues : (i : ℕ) → i < taskLimit → getD (times .dues) i 0 ≡ getD tasks i noTask .deadline .0
   pub room : length (times .dues) ≡ taskLimit

@@ -1,16 +1,16 @@
 -- What a sweep over the intervals up to a horizon answers, and the test that it makes at each.
+use mathlib.Core.Path.{_≡_}
 use mathlib.Core.Bool.{Bool, _||_}
 use mathlib.Core.List.{List}
 use Prim.Native.Nat.{ℕ, _+_, _-_}
 use lib.Dec.{leb, ltb}
-use Rattle.meaning.specs.Graph.{Graph}
+use Rattle.meaning.specs.Graph.{Graph, Sound}
 use Rattle.meaning.specs.Demand.{noTime}
 use Rattle.meaning.specs.Computed.{cellAt, cellFor, maxBelow, minBelow}
 use Rattle.meaning.specs.Verdict.{Verdict, holds, overrun, IsVerdict}
-use Rattle.sheet.specs.Meaning.{graphOf, tasksOf}
-use Rattle.fields.specs.declared.values.Sheet.{Sheet}
+use Rattle.fields.specs.declared.values.Task.{Task}
 use Rattle.tables.specs.Lines.{HasLines}
-use Rattle.sheet.specs.Ready.{Ready}
+use Rattle.overruns.specs.Releases.{countedTasks}
 use Rattle.overruns.specs.declared.sweep.Swept.{Swept}
 use Rattle.overruns.specs.declared.sweep.Swept.the-variants.{Holds, Overrun}
 use Rattle.tables.specs.declared.Table.{Table}
@@ -36,8 +36,7 @@ abbrev pub overrunAt : Table → ℕ → List ℕ → ℕ → ℕ → Bool
 overrunAt Interval = overAt
 overrunAt Amount = reachedAt
 
--- whatever file the sheet is of, if the cells hold the lines of its table up to the horizon, the answer is the verdict
-abbrev pub IsSwept : (Graph → ℕ → ℕ → ℕ → Type 0) → Sheet → List ℕ → ℕ → Swept → Type 0
-IsSwept Right sheet cells horizon answer =
-    (bytes : List ℕ) → Ready bytes sheet → HasLines (sheet .tally .rows) (Right (graphOf bytes sheet)) cells (horizon + 1)
-    → IsVerdict (graphOf bytes sheet) (tasksOf sheet) horizon (verdictOf answer)
+-- whatever sound graph of n rows it is, if the cells hold the lines of its table up to the horizon, the answer is the verdict
+abbrev pub IsSwept : (Graph → ℕ → ℕ → ℕ → Type 0) → ℕ → List Task → ℕ → List ℕ → ℕ → Swept → Type 0
+IsSwept Right n tasks count cells horizon answer =
+    (g : Graph) → Sound g → g .rows ≡ n → HasLines n (Right g) cells (horizon + 1) → IsVerdict g (countedTasks tasks count) horizon (verdictOf answer)

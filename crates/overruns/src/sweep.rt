@@ -2,6 +2,7 @@
 use crate::tasks::advance;
 use crate::tasks::times_of;
 use fields::values::Sheet;
+use fields::values::Task;
 use tables::Table;
 use tables::amount::shortest_of;
 use tables::interval::demand_of;
@@ -10,7 +11,7 @@ ghost use Prim.Native.Nat.{_+_, _*_, _^_, _≤_, _<_};
 ghost use lib.ListN.{length};
 ghost use Rattle.meaning.specs.Demand.{longestTime};
 ghost use Rattle.tables.specs.WhichTable.{tableOf};
-ghost use Rattle.overruns.specs.Releases.{IsProper};
+ghost use Rattle.overruns.specs.Releases.{ProperTasks};
 ghost use Rattle.overruns.specs.Sweeping.{IsSwept, overAt, reachedAt, overrunAt};
 
 // No interval from 1 to the horizon is overrun, or this is the first.
@@ -20,14 +21,20 @@ pub enum Swept {
 }
 
 // One interval after the other, with the line of a table and fixed demand running along, up to the first overrun.
-pub fn sweep(table: Table, sheet: Sheet, cells: &[u32], horizon: usize) -> Swept
-    requires { ⌜ IsProper sheet ⌝ }
+pub fn sweep(
+    table: Table,
+    tasks: [Task; Sheet::TASKS],
+    count: usize,
+    n: usize,
+    cells: &[u32],
+    horizon: usize,
+) -> Swept
+    requires { ⌜ ProperTasks tasks count ⌝ }
     requires { ⌜ horizon ≤ longestTime ⌝ }
-    requires { ⌜ sheet .tally .rows * (horizon + 1) ≤ length (now cells) ⌝ }
-    ensures { λ r. ⌜ IsSwept (tableOf table) sheet (now (cells .entry)) horizon r ⌝ }
+    requires { ⌜ n * (horizon + 1) ≤ length (now cells) ⌝ }
+    ensures { λ r. ⌜ IsSwept (tableOf table) n tasks count (now (cells .entry)) horizon r ⌝ }
 {
-    let tally = sheet.tally;
-    let times = times_of(sheet);
+    let times = times_of(tasks);
     let lengths = times.lengths;
     let periods = times.periods;
     let mut dues = times.dues;
@@ -35,8 +42,8 @@ pub fn sweep(table: Table, sheet: Sheet, cells: &[u32], horizon: usize) -> Swept
     let mut t: usize = 0;
     while t < horizon {
         t += 1;
-        fixed += advance(&lengths, &periods, &mut dues, tally.tasks, t);
-        if overrun_at(table, cells, tally.rows, t, fixed) {
+        fixed += advance(&lengths, &periods, &mut dues, count, t);
+        if overrun_at(table, cells, n, t, fixed) {
             return Swept::Overrun(t);
         }
     }

@@ -7,8 +7,8 @@ ghost use lib.ListN.{length};
 ghost use Rattle.meaning.specs.Demand.{longestTime};
 ghost use Rattle.meaning.specs.Fixed.{fixedOf, fixedSum};
 ghost use Rattle.fields.specs.Limits.{taskLimit};
-ghost use Rattle.sheet.specs.Meaning.{timesOf, tasksOf};
-ghost use Rattle.overruns.specs.Releases.{IsProper, AreTimes, Advanced};
+ghost use Rattle.sheet.specs.Meaning.{timesOf};
+ghost use Rattle.overruns.specs.Releases.{countedTasks, ProperTasks, AreTimes, Advanced};
 
 // The times of the fixed tasks as numbers, since only arrays of numbers are lent: each task's length and period, and when its next job falls due.
 pub struct Times {
@@ -17,18 +17,16 @@ pub struct Times {
     pub dues: [usize; Sheet::TASKS],
 }
 
-// Fixed demand at t.
-pub fn fixed_sum(sheet: Sheet, t: usize) -> u64
-    requires { ⌜ IsProper sheet ⌝ }
+// Fixed demand of the first tasks at t.
+pub fn fixed_sum(tasks: [Task; Sheet::TASKS], count: usize, t: usize) -> u64
+    requires { ⌜ ProperTasks tasks count ⌝ }
     requires { ⌜ t ≤ longestTime ⌝ }
-    ensures { λ r. ⌜ r ≡ fixedSum (tasksOf sheet) t ⌝ }
+    ensures { λ r. ⌜ r ≡ fixedSum (countedTasks tasks count) t ⌝ }
 {
-    let tally = sheet.tally;
-    let count = tally.tasks;
     let mut sum: u64 = 0;
     let mut i: usize = 0;
     while i < count {
-        let task = sheet.tasks[i];
+        let task = tasks[i];
         sum += fixed_of(task, t);
         i += 1;
     }
@@ -49,16 +47,16 @@ pub fn fixed_of(task: Task, t: usize) -> u64
     task.length.0 as u64 * jobs as u64
 }
 
-// The times of a sheet's tasks before the first interval.
-pub fn times_of(sheet: Sheet) -> Times
-    ensures { λ r. ⌜ AreTimes sheet r ⌝ }
+// The times of the tasks before the first interval.
+pub fn times_of(tasks: [Task; Sheet::TASKS]) -> Times
+    ensures { λ r. ⌜ AreTimes tasks r ⌝ }
 {
     let mut lengths = [0u16; Sheet::TASKS];
     let mut periods = [0u16; Sheet::TASKS];
     let mut dues = [0usize; Sheet::TASKS];
     let mut i: usize = 0;
     while i < Sheet::TASKS {
-        let task = sheet.tasks[i];
+        let task = tasks[i];
         lengths[i] = task.length.0;
         periods[i] = task.period.0;
         dues[i] = task.deadline.0 as usize;

@@ -9,10 +9,9 @@ use fields::values::Row;
 use fields::values::Sheet;
 use fields::values::Tally;
 use fields::values::Task;
-use fields::values::row_of;
 ghost use mathlib.Core.Path.{_≡_};
 ghost use Rattle.fields.specs.Deciding.{firstBroken};
-ghost use Rattle.rules.specs.Rules.{missing, outOfOrder, wrongLength, full, badByte, badRpm, badFallback, lastHangs, unlikeSet, unknownIn, unknownFollower, commonRules, modeRules, rowRules, taskRules};
+ghost use Rattle.rules.specs.Rules.{missing, outOfOrder, wrongLength, full, badByte, badRpm, badFallback, lastHangs, unlikeSet, unknownIn, commonRules, modeRules, rowRules, taskRules};
 
 // The first rules of every known field: its place in the order, its length, its count. 0 where none is broken.
 // It is told whether the field is a row whose length is unlike its follower set.
@@ -225,19 +224,4 @@ pub fn unknown_in(followers: u64, rows: usize) -> bool
         sets::Next::At(_) => true,
         sets::Next::Nothing => false,
     }
-}
-
-// Rule 9: one of `count` rows names a row that does not exist.
-pub fn unknown_follower(rows: [Row; Sheet::ROWS], count: usize) -> bool
-    ensures { λ r. ⌜ r ≡ unknownFollower rows count ⌝ }
-{
-    let mut number: usize = 0;
-    while number < count {
-        let row = row_of(rows, number);
-        if unknown_in(row.followers, count) {
-            return true;
-        }
-        number += 1;
-    }
-    false
 }

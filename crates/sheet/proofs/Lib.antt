@@ -9,6 +9,7 @@ pub mod ProperFields
 pub mod Accepted
 pub mod ProperGraph
 pub mod AcceptedReady
-pub mod ProperTasks
 pub mod Determined
 pub mod Counts
+pub mod RowPlaces
+pub mod Outlining

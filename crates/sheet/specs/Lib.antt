@@ -4,3 +4,4 @@ pub mod Judging
 pub mod Meaning
 pub mod Proper
 pub mod Ready
+pub mod Outline

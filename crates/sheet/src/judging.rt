@@ -1,6 +1,9 @@
-// The rules of each kind of field on the file's bytes, and what a field adds to the sheet.
+// The rules of each kind of field on the file's bytes, and what a field adds to what is kept of the sheet.
 use crate::Answer;
-use crate::Judged;
+use crate::Head;
+use crate::Outline;
+use crate::rows::row_at;
+use crate::rows::unknown_follower;
 use fields::reader::long_at;
 use fields::reader::word_at;
 use fields::table::Kind;
@@ -21,18 +24,20 @@ use rules::mode_number;
 use rules::row_number;
 use rules::task_number;
 use rules::text::text_number;
-use rules::unknown_follower;
 use rules::unlike_set;
 ghost use mathlib.Core.Path.{_≡_};
 ghost use Prim.Native.Nat.{_+_, _*_, _<_, _≤_};
+ghost use mathlib.Core.Bool.{true};
+ghost use mathlib.Core.List.{List, []};
 ghost use lib.ListN.{length};
 ghost use Rattle.fields.specs.Deciding.{firstBroken};
-ghost use Rattle.fields.specs.Limits.{modeLimit, rowLimit, taskLimit, modeSize, headSize, gapSize};
-ghost use Rattle.fields.specs.Reading.{fallbackAt, modeAt, rowAt, taskAt};
+ghost use Rattle.fields.specs.Limits.{modeLimit, rowLimit, taskLimit, modeSize, gapSize};
+ghost use Rattle.fields.specs.Reading.{fallbackAt, modeAt, taskAt};
 ghost use Rattle.rules.specs.Rules.{followerCount};
 ghost use Rattle.sheet.specs.Content.{gapShorter, rowGapRules};
 ghost use Rattle.sheet.specs.Values.{withLabel, withMode, withRow, withTask};
-ghost use Rattle.sheet.specs.Judging.{refusal, headRules, ownRules, fieldRules, withField, endJudged};
+ghost use Rattle.sheet.specs.Judging.{refusal, headRules, ownRules, fieldRules, endJudged};
+ghost use Rattle.sheet.specs.Outline.{headOf, sheetFrom, outlineOf, headWith, isRow, placesWith, PlacesIn, RowsFrom};
 
 // The number of the first rule that a field breaks by itself, 0 where it breaks none.
 pub(crate) fn field_number(bytes: &[u8], tally: Tally, kind: Kind, start: usize, size: usize) -> u8
@@ -83,52 +88,82 @@ fn own_number(bytes: &[u8], tally: Tally, kind: Kind, start: usize, size: usize)
 }
 
 // The end of the sheet, where the end field at `at` breaks no rule by itself and the next field would start at `next`: rule 9, then rule 4.
-pub(crate) fn judge_end(bytes: &[u8], sheet: Sheet, at: usize, next: usize) -> Judged
-    ensures { λ r. ⌜ r ≡ endJudged (now (bytes .entry)) sheet at next ⌝ }
+pub(crate) fn outline_end(
+    bytes: &[u8],
+    places: &[usize; Sheet::ROWS],
+    head: Head,
+    at: usize,
+    next: usize,
+) -> Outline
+    requires { ⌜ PlacesIn (now bytes) (now places) (head .tally .rows) ⌝ }
+    ensures { λ r. ⌜ ((rows : List Row) → RowsFrom (now (bytes .entry)) (now (places .entry)) (head .tally .rows) rows → r ≡ outlineOf (endJudged (now (bytes .entry)) (sheetFrom head rows) at next)) ⌝ }
 {
-    let tally = sheet.tally;
-    let rows = sheet.rows;
-    if unknown_follower(rows, tally.rows) {
+    let tally = head.tally;
+    if unknown_follower(bytes, places, tally.rows) {
         return refused(9, at);
     }
     if next < bytes.len() {
         return refused(4, next);
     }
     let answer = Answer::Accepted;
-    Judged {
+    Outline {
         answer: answer,
-        sheet: sheet,
+        head: head,
     }
 }
 
 // A refused sheet has no values.
-pub(crate) fn refused(number: u8, place: usize) -> Judged
-    ensures { λ r. ⌜ r ≡ refusal number place ⌝ }
+pub(crate) fn refused(number: u8, place: usize) -> Outline
+    ensures { λ r. ⌜ r ≡ outlineOf (refusal number place) ⌝ }
 {
-    let sheet = Sheet::empty();
-    Judged {
+    let head = Head::empty();
+    Outline {
         answer: Answer::Refused {
             number: number,
             place: place,
         },
-        sheet: sheet,
+        head: head,
     }
 }
 
-// The sheet with what a field that breaks no rule adds to it.
-pub(crate) fn with_field(bytes: &[u8], sheet: Sheet, kind: Kind, start: usize, size: usize) -> Sheet
+// The head with what a field that breaks no rule adds to it.
+pub(crate) fn with_field(bytes: &[u8], head: Head, kind: Kind, start: usize, size: usize) -> Head
     requires { ⌜ start + size ≤ length (now bytes) ⌝ }
-    requires { ⌜ firstBroken (fieldRules (now bytes) (sheet .tally) kind start size) ≡ 0 ⌝ }
-    ensures { λ r. ⌜ r ≡ withField (now (bytes .entry)) sheet kind start size ⌝ }
+    requires { ⌜ firstBroken (fieldRules (now bytes) (head .tally) kind start size) ≡ 0 ⌝ }
+    ensures { λ r. ⌜ r ≡ headWith (now (bytes .entry)) head kind start size ⌝ }
 {
     match kind {
-        Kind::RefusedTag => sheet,
-        Kind::LabelField => with_label(sheet, start, size),
-        Kind::ModeField => with_mode(sheet, mode_at(bytes, start, size)),
-        Kind::RowField => with_row(sheet, row_at(bytes, start)),
-        Kind::TaskField => with_task(sheet, task_at(bytes, start)),
-        Kind::EndField => sheet,
-        Kind::SkippedField => sheet,
+        Kind::RefusedTag => head,
+        Kind::LabelField => with_label(head, start, size),
+        Kind::ModeField => with_mode(head, mode_at(bytes, start, size)),
+        Kind::RowField => with_row(head, row_at(bytes, start)),
+        Kind::TaskField => with_task(head, task_at(bytes, start)),
+        Kind::EndField => head,
+        Kind::SkippedField => head,
+    }
+}
+
+// Keeps the place of a row, which has that number; of another field there is none to keep.
+pub(crate) fn keep_place(places: &mut [usize; Sheet::ROWS], kind: Kind, number: usize, start: usize)
+    requires { ⌜ (isRow kind ≡ true → number < rowLimit) ⌝ }
+    ensures { λ _. ⌜ now (places .exit) ≡ placesWith kind (now (places .entry)) number start ⌝ }
+{
+    if is_row(kind) {
+        places[number] = start;
+    }
+}
+
+fn is_row(kind: Kind) -> bool
+    ensures { λ r. ⌜ r ≡ isRow kind ⌝ }
+{
+    match kind {
+        Kind::RefusedTag => false,
+        Kind::LabelField => false,
+        Kind::ModeField => false,
+        Kind::RowField => true,
+        Kind::TaskField => false,
+        Kind::EndField => false,
+        Kind::SkippedField => false,
     }
 }
 
@@ -184,21 +219,6 @@ fn fallback_at(bytes: &[u8], start: usize, size: usize) -> Rpm
     Rpm(word_at(bytes, start + Sheet::MODE))
 }
 
-fn row_at(bytes: &[u8], start: usize) -> Row
-    requires { ⌜ start + headSize ≤ length (now bytes) ⌝ }
-    ensures { λ r. ⌜ r ≡ rowAt (now (bytes .entry)) start ⌝ }
-{
-    let speed = Rpm(word_at(bytes, start));
-    let deadline = Ticks(word_at(bytes, start + 2));
-    let followers = long_at(bytes, start + 4);
-    Row {
-        speed: speed,
-        deadline: deadline,
-        followers: followers,
-        gaps: start + Sheet::HEAD,
-    }
-}
-
 fn task_at(bytes: &[u8], start: usize) -> Task
     requires { ⌜ start + 6 ≤ length (now bytes) ⌝ }
     ensures { λ r. ⌜ r ≡ taskAt (now (bytes .entry)) start ⌝ }
@@ -213,52 +233,50 @@ fn task_at(bytes: &[u8], start: usize) -> Task
     }
 }
 
-fn with_label(sheet: Sheet, start: usize, size: usize) -> Sheet
-    ensures { λ r. ⌜ r ≡ withLabel sheet start size ⌝ }
+fn with_label(head: Head, start: usize, size: usize) -> Head
+    ensures { λ r. ⌜ r ≡ headOf (withLabel (sheetFrom head []) start size) ⌝ }
 {
-    let mut next = sheet;
+    let mut next = head;
     let part = Part {
         start: start,
         size: size,
     };
-    let tally = count_label(sheet.tally);
+    let tally = count_label(head.tally);
     next.label = part;
     next.tally = tally;
     next
 }
 
-fn with_mode(sheet: Sheet, mode: Mode) -> Sheet
-    requires { ⌜ sheet .tally .modes < modeLimit ⌝ }
-    ensures { λ r. ⌜ r ≡ withMode sheet mode ⌝ }
+fn with_mode(head: Head, mode: Mode) -> Head
+    requires { ⌜ head .tally .modes < modeLimit ⌝ }
+    ensures { λ r. ⌜ r ≡ headOf (withMode (sheetFrom head []) mode) ⌝ }
 {
-    let mut next = sheet;
-    let number = sheet.tally.modes;
+    let mut next = head;
+    let number = head.tally.modes;
     next.modes[number] = mode;
-    let tally = count_mode(sheet.tally, mode);
+    let tally = count_mode(head.tally, mode);
     next.tally = tally;
     next
 }
 
-fn with_row(sheet: Sheet, row: Row) -> Sheet
-    requires { ⌜ sheet .tally .rows < rowLimit ⌝ }
-    ensures { λ r. ⌜ r ≡ withRow sheet row ⌝ }
+fn with_row(head: Head, row: Row) -> Head
+    requires { ⌜ head .tally .rows < rowLimit ⌝ }
+    ensures { λ r. ⌜ r ≡ headOf (withRow (sheetFrom head []) row) ⌝ }
 {
-    let mut next = sheet;
-    let number = sheet.tally.rows;
-    next.rows[number] = row;
-    let tally = count_row(sheet.tally, row.speed);
+    let mut next = head;
+    let tally = count_row(head.tally, row.speed);
     next.tally = tally;
     next
 }
 
-fn with_task(sheet: Sheet, task: Task) -> Sheet
-    requires { ⌜ sheet .tally .tasks < taskLimit ⌝ }
-    ensures { λ r. ⌜ r ≡ withTask sheet task ⌝ }
+fn with_task(head: Head, task: Task) -> Head
+    requires { ⌜ head .tally .tasks < taskLimit ⌝ }
+    ensures { λ r. ⌜ r ≡ headOf (withTask (sheetFrom head []) task) ⌝ }
 {
-    let mut next = sheet;
-    let number = sheet.tally.tasks;
+    let mut next = head;
+    let number = head.tally.tasks;
     next.tasks[number] = task;
-    let tally = count_task(sheet.tally);
+    let tally = count_task(head.tally);
     next.tally = tally;
     next
 }

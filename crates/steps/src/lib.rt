@@ -7,9 +7,9 @@ ghost use mathlib.Core.Path.{_≡_};
 ghost use lib.ListN.{length};
 ghost use Rattle.meaning.specs.Demand.{longestTime};
 ghost use Rattle.meaning.specs.Fixed.{fixedOf, fixedSum};
-ghost use Rattle.sheet.specs.Meaning.{timesOf, tasksOf};
+ghost use Rattle.sheet.specs.Meaning.{timesOf};
 ghost use Rattle.tables.specs.Lines.{demandIn};
-ghost use Rattle.overruns.specs.Releases.{IsProper};
+ghost use Rattle.overruns.specs.Releases.{countedTasks, ProperTasks};
 ghost use Rattle.steps.specs.Rising.{IsHorizon, IsNextRise};
 
 // The largest horizon whose lines fit a number of cells.
@@ -43,19 +43,22 @@ pub fn next_rise(cells: &[u32], rows: usize, horizon: usize, from: usize) -> usi
     interval
 }
 
-// The same for the demand of all fixed tasks: the soonest of where the demand of each rises.
-pub fn next_fixed_rise(sheet: Sheet, horizon: usize, from: usize) -> usize
-    requires { ⌜ IsProper sheet ⌝ }
+// The same for the demand of the first fixed tasks: the soonest of where the demand of each rises.
+pub fn next_fixed_rise(
+    tasks: [Task; Sheet::TASKS],
+    count: usize,
+    horizon: usize,
+    from: usize,
+) -> usize
+    requires { ⌜ ProperTasks tasks count ⌝ }
     requires { ⌜ horizon ≤ longestTime ⌝ }
     requires { ⌜ (1 ≤ from) × (from ≤ horizon + 1) ⌝ }
-    ensures { λ r. ⌜ IsNextRise (fixedSum (tasksOf sheet)) horizon from r ⌝ }
+    ensures { λ r. ⌜ IsNextRise (fixedSum (countedTasks tasks count)) horizon from r ⌝ }
 {
-    let tally = sheet.tally;
-    let count = tally.tasks;
     let mut next = horizon + 1;
     let mut i: usize = 0;
     while i < count {
-        let task = sheet.tasks[i];
+        let task = tasks[i];
         next = sooner(next, next_due(task, horizon, from));
         i += 1;
     }

@@ -2,26 +2,23 @@
 use mathlib.Core.Path.{_≡_, refl, sym, ap, _∙_}
 use mathlib.Core.Logic.{⊎-elim}
 use mathlib.Core.List.{List}
-use Prim.Native.Nat.{ℕ, _+_, _-_, _*_, _^_, _≤_, _<_}
+use Prim.Native.Nat.{ℕ, _+_, _-_, _^_, _≤_, _<_}
 use native.Mathlib.Omega.{arith}
 use Rattle.sets.specs.Sets.{bit}
 use Rattle.sets.proofs.Bits.{bit-or, bit-zero-past}
 use Rattle.sets.proofs.Folds.{fold-as-min}
 use Rattle.meaning.specs.Graph.{Graph}
-use Rattle.meaning.specs.Cells.{ByAmount, Filled}
-use Rattle.meaning.specs.Computed.{cellAt, cellFor, minBelow, timeOrNone, viaLeastAt, leastAt}
+use Rattle.meaning.specs.Cells.{ByAmount}
+use Rattle.meaning.specs.Computed.{cellAt, cellFor, minBelow, timeOrNone, viaLeastAt}
 use Rattle.meaning.specs.Demand.{noTime, IsShortest}
 use Rattle.meaning.proofs.Tests.{le-or}
 use Rattle.meaning.proofs.Folds.{min-skip}
 use Rattle.meaning.proofs.ByAmount.{via-least-is, via-least-none, shortest-is}
-use Rattle.meaning.proofs.Filling.{next-by-amount}
-use Rattle.sheet.specs.Meaning.{rowOf, lengthOf, gapOf, graphOf}
+use Rattle.sheet.specs.Meaning.{gapOf}
 use Rattle.sheet.specs.Proper.{ProperRow}
 use Rattle.fields.specs.declared.values.Row.{Row}
-use Rattle.fields.specs.declared.values.Sheet.{Sheet}
 use Rattle.tables.specs.Followers.{gapTo}
 use Rattle.tables.specs.Lines.{HasLines}
-use Rattle.sheet.specs.Ready.{Ready}
 use Rattle.tables.specs.Amounts.{soonestVia}
 use Rattle.tables.proofs.Followers.{gap-of-follower, gap-of-other, gap-positive}
 
@@ -67,19 +64,6 @@ module _ (bytes : List ℕ) (n : ℕ) (row : Row) (proper : ProperRow bytes n ro
       (λ l. min-skip noTime via n 64 (l .0) (λ m a _. via-past-rows m a))
       (λ l. sym (min-skip noTime via 64 n (omega (arith, l .0)) (λ m a _. via-past-set m a)))
       (le-or n 64)
-
-module _ (bytes : List ℕ) (sheet : Sheet) (ready : Ready bytes sheet) (k : ℕ) (hk : k < sheet .tally .rows) where
-  -- no job of a sheet takes no time
-  pub length-some : 1 ≤ lengthOf sheet k
-  unfolding graphOf
-  length-some = ready .sound .length-positive k hk
-
-  -- what the step makes of an area that is filled up to a cell, by a row and its length, is right for that cell
-  pub next-time : (old cells : List ℕ) (line work time : ℕ) → work ≡ lengthOf sheet k
-      → time ≡ leastAt (sheet .tally .rows) work (rowOf sheet k .deadline .0) (gapOf bytes (rowOf sheet k)) (cellFor (sheet .tally .rows) cells) (line + 1)
-      → Filled (sheet .tally .rows) (ByAmount (graphOf bytes sheet)) old cells (line * sheet .tally .rows + k) → ByAmount (graphOf bytes sheet) line k time
-  unfolding graphOf
-  next-time old cells line work time same is filled = rw (is, same) (next-by-amount (graphOf bytes sheet) (ready .sound) old cells line k hk filled)
 
 -- the shortest interval for an amount is the smallest cell of its line
 pub line-shortest : (g : Graph) (cells : List ℕ) (lines : ℕ) → HasLines (g .rows) (ByAmount g) cells lines → (amount : ℕ) → 1 ≤ amount → amount ≤ lines

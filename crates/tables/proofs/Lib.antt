@@ -2,5 +2,4 @@ pub mod Followers
 pub mod Adding
 pub mod Lines
 pub mod Storing
-pub mod SheetTables
 pub mod Amounts

@@ -1,4 +1,4 @@
-pub mod Lengths
+pub mod Laid
 pub mod Followers
 pub mod Adding
 pub mod Lines

@@ -1,49 +1,21 @@
 // The table by amount: a line has, for each row, the smallest end time of a sequence from that row with at least the line's amount. Lines count from 0 and amounts from 1.
 use crate::interval::gap_at;
-use crate::interval::job_lengths;
 use fields::units::Ticks;
 use fields::values::Row;
 use fields::values::Sheet;
 ghost use mathlib.Core.Path.{_≡_};
 ghost use Prim.Native.Nat.{_+_, _*_, _≤_, min};
 ghost use lib.ListN.{length};
-ghost use Rattle.meaning.specs.Cells.{ByAmount, Filled, amountOf};
+ghost use Rattle.meaning.specs.Cells.{amountOf};
 ghost use Rattle.meaning.specs.Computed.{cellFor, leastAt, minBelow, timeOrNone};
 ghost use Rattle.meaning.specs.Demand.{noTime};
-ghost use Rattle.sheet.specs.Meaning.{gapOf, graphOf};
+ghost use Rattle.sheet.specs.Meaning.{gapOf};
 ghost use Rattle.sheet.specs.Proper.{ProperRow};
 ghost use Rattle.tables.specs.Amounts.{soonestVia};
 ghost use Rattle.tables.specs.Followers.{Followed};
-ghost use Rattle.sheet.specs.Ready.{Ready};
 
 // What stands for a time where there is none.
 pub const NO_TIME: u32 = 4294967295;
-
-// Fills the lines of the amounts from 1 up to `amounts`. One loop runs over all cells, so that the sheet is handed over once.
-pub fn fill_by_amount(bytes: &[u8], sheet: Sheet, cells: &mut [u32], amounts: usize)
-    requires { ⌜ Ready (now bytes) sheet ⌝ }
-    requires { ⌜ sheet .tally .rows * amounts ≤ length (now cells) ⌝ }
-    ensures { λ _. ⌜ Filled (sheet .tally .rows) (ByAmount (graphOf (now (bytes .entry)) sheet)) (now (cells .entry)) (now (cells .exit)) (sheet .tally .rows * amounts) ⌝ }
-{
-    let lengths = job_lengths(sheet);
-    let tally = sheet.tally;
-    let n = tally.rows;
-    let end = n * amounts;
-    let mut at: usize = 0;
-    let mut line: usize = 0;
-    let mut k: usize = 0;
-    while at < end {
-        let row = sheet.rows[k];
-        let time = least_cell(bytes, cells, row, lengths[k], n, line);
-        cells[at] = time;
-        at += 1;
-        k += 1;
-        if k == n {
-            k = 0;
-            line += 1;
-        }
-    }
-}
 
 // The smallest cell of the line of an amount.
 pub fn shortest_of(cells: &[u32], n: usize, amount: usize) -> u32
@@ -62,7 +34,7 @@ pub fn shortest_of(cells: &[u32], n: usize, amount: usize) -> u32
 }
 
 // The cell of a row with a job length in a line, from the lines before.
-fn least_cell(bytes: &[u8], cells: &[u32], row: Row, work: u32, n: usize, line: usize) -> u32
+pub fn least_cell(bytes: &[u8], cells: &[u32], row: Row, work: u32, n: usize, line: usize) -> u32
     requires { ⌜ ProperRow (now bytes) n row ⌝ }
     requires { ⌜ 1 ≤ work ⌝ }
     requires { ⌜ n * line ≤ length (now cells) ⌝ }
@@ -103,7 +75,7 @@ fn soonest_via(
 }
 
 // A gap and the time after it together, if that is not beyond the longest. The test comes first, since the sum with no time would not fit.
-fn time_via(gap: Ticks, after: u32) -> u32
+pub fn time_via(gap: Ticks, after: u32) -> u32
     ensures { λ r. ⌜ r ≡ timeOrNone (gap .0 + after) ⌝ }
 {
     let first = gap.0 as u32;
@@ -113,7 +85,7 @@ fn time_via(gap: Ticks, after: u32) -> u32
     first + after
 }
 
-fn smaller(first: u32, second: u32) -> u32
+pub fn smaller(first: u32, second: u32) -> u32
     ensures { λ r. ⌜ r ≡ min first second ⌝ }
 {
     if second < first { second } else { first }

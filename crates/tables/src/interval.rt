@@ -1,48 +1,21 @@
 // The table by interval: its line s has, for each row, the most work of a sequence from that row with end time at most s.
+use fields::reader::word_inside;
 use fields::units::Ticks;
 use fields::values::Row;
 use fields::values::Sheet;
 use modes::job_length;
+use sheet::Head;
+use sheet::rows::row_at;
 ghost use mathlib.Core.Path.{_≡_};
 ghost use Prim.Native.Nat.{_+_, _*_, _^_, _≤_, _<_, max};
 ghost use lib.ListN.{length};
-ghost use Rattle.meaning.specs.Cells.{ByInterval, Filled};
 ghost use Rattle.meaning.specs.Computed.{cellAt, maxBelow};
-ghost use Rattle.meaning.specs.Demand.{longestTime};
-ghost use Rattle.sheet.specs.Meaning.{graphOf};
 ghost use Rattle.sheet.specs.Proper.{ProperRow};
 ghost use Rattle.fields.specs.Reading.{ticksAt};
 ghost use Rattle.tables.specs.Adding.{addedAt, mostAdded, cellOf};
 ghost use Rattle.tables.specs.Followers.{Followed};
-ghost use Rattle.sheet.specs.Ready.{Ready};
-ghost use Rattle.tables.specs.Lengths.{AreLengths};
-
-// Fills the lines 0 to t. One loop runs over all cells, so that the sheet is handed over once.
-pub fn fill_by_interval(bytes: &[u8], sheet: Sheet, cells: &mut [u32], t: usize)
-    requires { ⌜ Ready (now bytes) sheet ⌝ }
-    requires { ⌜ t ≤ longestTime ⌝ }
-    requires { ⌜ sheet .tally .rows * (t + 1) ≤ length (now cells) ⌝ }
-    ensures { λ _. ⌜ Filled (sheet .tally .rows) (ByInterval (graphOf (now (bytes .entry)) sheet)) (now (cells .entry)) (now (cells .exit)) (sheet .tally .rows * (t + 1)) ⌝ }
-{
-    let lengths = job_lengths(sheet);
-    let tally = sheet.tally;
-    let n = tally.rows;
-    let end = n * (t + 1);
-    let mut at: usize = 0;
-    let mut s: usize = 0;
-    let mut k: usize = 0;
-    while at < end {
-        let row = sheet.rows[k];
-        let work = cell(bytes, cells, row, lengths[k], n, s);
-        cells[at] = work;
-        at += 1;
-        k += 1;
-        if k == n {
-            k = 0;
-            s += 1;
-        }
-    }
-}
+ghost use Rattle.sheet.specs.Outline.{Handed};
+ghost use Rattle.tables.specs.Laid.{Laid};
 
 // The largest cell of the line t.
 pub fn demand_of(cells: &[u32], n: usize, t: usize) -> u32
@@ -59,16 +32,18 @@ pub fn demand_of(cells: &[u32], n: usize, t: usize) -> u32
     most
 }
 
-// The job length of each row.
-pub fn job_lengths(sheet: Sheet) -> [u32; Sheet::ROWS]
-    ensures { λ r. ⌜ AreLengths sheet r ⌝ }
+// The job length of each row, calculated once for all that is asked of a sheet.
+pub fn job_lengths(bytes: &[u8], head: Head, places: &[usize; Sheet::ROWS]) -> [u32; Sheet::ROWS]
+    requires { ⌜ Handed (now bytes) head (now places) ⌝ }
+    ensures { λ r. ⌜ Laid (now (bytes .entry)) (now (places .entry)) r (head .tally .rows) ⌝ }
 {
-    let modes = sheet.modes;
-    let tally = sheet.tally;
+    let tally = head.tally;
+    let modes = head.modes;
+    let n = tally.rows;
     let mut lengths = [0u32; Sheet::ROWS];
     let mut k: usize = 0;
-    while k < Sheet::ROWS {
-        let row = sheet.rows[k];
+    while k < n {
+        let row = row_at(bytes, places[k]);
         lengths[k] = job_length(modes, tally.modes, row.speed).0 as u32;
         k += 1;
     }
@@ -76,7 +51,7 @@ pub fn job_lengths(sheet: Sheet) -> [u32; Sheet::ROWS]
 }
 
 // The cell of a row with a job length in the line s, from the lines before.
-fn cell(bytes: &[u8], cells: &[u32], row: Row, work: u32, n: usize, s: usize) -> u32
+pub fn cell(bytes: &[u8], cells: &[u32], row: Row, work: u32, n: usize, s: usize) -> u32
     requires { ⌜ ProperRow (now bytes) n row ⌝ }
     requires { ⌜ n * (s + 1) ≤ length (now cells) ⌝ }
     requires { ⌜ cellOf (now bytes) (now cells) row work n s < 2 ^ 32 ⌝ }
@@ -125,18 +100,10 @@ pub fn gap_at(bytes: &[u8], place: usize) -> Ticks
     requires { ⌜ place + 1 < length (now bytes) ⌝ }
     ensures { λ r. ⌜ r ≡ ticksAt (now (bytes .entry)) place ⌝ }
 {
-    let high = wide(bytes[place]);
-    let low = wide(bytes[place + 1]);
-    Ticks(high * 256 + low)
+    Ticks(word_inside(bytes, place))
 }
 
-fn wide(byte: u8) -> u16
-    ensures { λ r. ⌜ (r ≡ byte) × (r < 256) ⌝ }
-{
-    byte as u16
-}
-
-fn larger(first: u32, second: u32) -> u32
+pub fn larger(first: u32, second: u32) -> u32
     ensures { λ r. ⌜ r ≡ max first second ⌝ }
 {
     if first < second { second } else { first }

@@ -2,6 +2,7 @@
 use desk::VerdictAnswer;
 use desk::verdict_by_interval;
 use fields::values::Sheet;
+use fields::values::Task;
 use overruns::tasks::fixed_sum;
 use printing::print_curve;
 use printing::print_rise;
@@ -14,7 +15,7 @@ ghost use lib.ListN.{length};
 ghost use Rattle.meaning.specs.Demand.{longestTime};
 ghost use Rattle.sheet.specs.Judging.{judged};
 ghost use Rattle.sheet.specs.declared.Answer.the-variants.{Accepted};
-ghost use Rattle.overruns.specs.Releases.{IsProper};
+ghost use Rattle.overruns.specs.Releases.{ProperTasks};
 ghost use Rattle.beginning.specs.Beginning.{rows};
 ghost use Rattle.printing.specs.Refusals.{RoomToInterval};
 ghost use Rattle.telling.specs.Told.{isRefused, CurveTold};
@@ -70,18 +71,20 @@ fn print_fixed(bytes: &[u8], horizon: usize)
 {
     let judged = judge(bytes);
     let sheet = judged.sheet;
-    print_fixed_rises(sheet, horizon);
+    let tally = sheet.tally;
+    let tasks = sheet.tasks;
+    print_fixed_rises(tasks, tally.tasks, horizon);
 }
 
 // A line for each interval up to the horizon at which the demand of the fixed tasks rises.
-fn print_fixed_rises(sheet: Sheet, horizon: usize)
-    requires { ⌜ IsProper sheet ⌝ }
+fn print_fixed_rises(tasks: [Task; Sheet::TASKS], count: usize, horizon: usize)
+    requires { ⌜ ProperTasks tasks count ⌝ }
     requires { ⌜ horizon ≤ longestTime ⌝ }
 {
-    let mut interval = next_fixed_rise(sheet, horizon, 1);
+    let mut interval = next_fixed_rise(tasks, count, horizon, 1);
     while interval <= horizon {
-        print_fixed_rise(interval, fixed_sum(sheet, interval));
-        interval = next_fixed_rise(sheet, horizon, interval + 1);
+        print_fixed_rise(interval, fixed_sum(tasks, count, interval));
+        interval = next_fixed_rise(tasks, count, horizon, interval + 1);
     }
 }
 

@@ -4,20 +4,21 @@ use fields::values::Sheet;
 use sets::Next;
 use sets::below_row;
 use sets::next_from;
+use sheet::rows::row_at;
 use tables::interval::added;
 use tables::interval::demand_of;
 use tables::interval::gap_at;
-use tables::interval::job_lengths;
 ghost use mathlib.Core.Path.{_≡_};
 ghost use Prim.Native.Nat.{_+_, _-_, _*_, _≤_, _<_};
 ghost use lib.ListN.{length};
 ghost use Rattle.meaning.specs.Cells.{ByInterval};
 ghost use Rattle.meaning.specs.Computed.{cellAt, seek, witnessOf};
 ghost use Rattle.meaning.specs.Demand.{longestTime};
-ghost use Rattle.sheet.specs.Meaning.{gapOf, graphOf};
+ghost use Rattle.beginning.specs.Beginning.{graph};
+ghost use Rattle.sheet.specs.Meaning.{gapOf};
 ghost use Rattle.sheet.specs.Proper.{ProperRow};
+ghost use Rattle.tables.specs.Laid.{Laid};
 ghost use Rattle.tables.specs.Lines.{HasLines};
-ghost use Rattle.sheet.specs.Ready.{Ready};
 ghost use Rattle.witness.specs.Stands.{Written, IsShown, leads, firstWith, startOf, onwardOf};
 
 // Where a witness stands: at a row, with the time and the work that are left from it on.
@@ -34,33 +35,45 @@ pub enum Shown {
 }
 
 // The rows of the witness at t, a byte each, in an area that may be too short for them: they are counted before they are written, for rule 13.
-pub fn show_witness(bytes: &[u8], sheet: Sheet, cells: &[u32], t: usize, area: &mut [u8]) -> Shown
-    requires { ⌜ Ready (now bytes) sheet ⌝ }
+pub fn show_witness(
+    bytes: &[u8],
+    places: &[usize; Sheet::ROWS],
+    lengths: &[u32; Sheet::ROWS],
+    n: usize,
+    cells: &[u32],
+    t: usize,
+    area: &mut [u8],
+) -> Shown
+    requires { ⌜ Laid (now bytes) (now places) (now lengths) n ⌝ }
     requires { ⌜ t ≤ longestTime ⌝ }
-    requires { ⌜ HasLines (sheet .tally .rows) (ByInterval (graphOf (now bytes) sheet)) (now cells) (t + 1) ⌝ }
-    ensures { λ r. ⌜ IsShown (witnessOf (graphOf (now (bytes .entry)) sheet) t) (now (area .entry)) r (now (area .exit)) ⌝ }
+    requires { ⌜ HasLines n (ByInterval (graph (now bytes))) (now cells) (t + 1) ⌝ }
+    ensures { λ r. ⌜ IsShown (witnessOf (graph (now (bytes .entry))) t) (now (area .entry)) r (now (area .exit)) ⌝ }
 {
-    let count = witness_count(bytes, sheet, cells, t);
+    let count = witness_count(bytes, places, lengths, n, cells, t);
     if area.len() < count {
         return Shown::TooLong;
     }
-    Shown::Rows(write_witness(bytes, sheet, cells, t, area))
+    Shown::Rows(write_witness(bytes, places, lengths, n, cells, t, area))
 }
 
 // How many rows the witness at t has.
-fn witness_count(bytes: &[u8], sheet: Sheet, cells: &[u32], t: usize) -> usize
-    requires { ⌜ Ready (now bytes) sheet ⌝ }
+fn witness_count(
+    bytes: &[u8],
+    places: &[usize; Sheet::ROWS],
+    lengths: &[u32; Sheet::ROWS],
+    n: usize,
+    cells: &[u32],
+    t: usize,
+) -> usize
+    requires { ⌜ Laid (now bytes) (now places) (now lengths) n ⌝ }
     requires { ⌜ t ≤ longestTime ⌝ }
-    requires { ⌜ HasLines (sheet .tally .rows) (ByInterval (graphOf (now bytes) sheet)) (now cells) (t + 1) ⌝ }
-    ensures { λ r. ⌜ r ≡ length (witnessOf (graphOf (now (bytes .entry)) sheet) t) ⌝ }
+    requires { ⌜ HasLines n (ByInterval (graph (now bytes))) (now cells) (t + 1) ⌝ }
+    ensures { λ r. ⌜ r ≡ length (witnessOf (graph (now (bytes .entry))) t) ⌝ }
 {
-    let tally = sheet.tally;
-    let n = tally.rows;
     let mut stand = start(cells, n, t);
     if stand.work == 0 {
         return 0;
     }
-    let lengths = job_lengths(sheet);
     let mut count: usize = 0;
     loop {
         count += 1;
@@ -69,26 +82,31 @@ fn witness_count(bytes: &[u8], sheet: Sheet, cells: &[u32], t: usize) -> usize
         if stand.work <= own {
             return count;
         }
-        let row = sheet.rows[k];
+        let row = row_at(bytes, places[k]);
         stand = onward(bytes, cells, row, own, n, stand);
     }
 }
 
 // Writes the rows of the witness at t, a byte each, into an area that has room for them, and gives their count. Bytes past it keep their values.
-fn write_witness(bytes: &[u8], sheet: Sheet, cells: &[u32], t: usize, area: &mut [u8]) -> usize
-    requires { ⌜ Ready (now bytes) sheet ⌝ }
+fn write_witness(
+    bytes: &[u8],
+    places: &[usize; Sheet::ROWS],
+    lengths: &[u32; Sheet::ROWS],
+    n: usize,
+    cells: &[u32],
+    t: usize,
+    area: &mut [u8],
+) -> usize
+    requires { ⌜ Laid (now bytes) (now places) (now lengths) n ⌝ }
     requires { ⌜ t ≤ longestTime ⌝ }
-    requires { ⌜ HasLines (sheet .tally .rows) (ByInterval (graphOf (now bytes) sheet)) (now cells) (t + 1) ⌝ }
-    requires { ⌜ length (witnessOf (graphOf (now bytes) sheet) t) ≤ length (now area) ⌝ }
-    ensures { λ r. ⌜ Written (witnessOf (graphOf (now (bytes .entry)) sheet) t) (now (area .entry)) (now (area .exit)) r ⌝ }
+    requires { ⌜ HasLines n (ByInterval (graph (now bytes))) (now cells) (t + 1) ⌝ }
+    requires { ⌜ length (witnessOf (graph (now bytes)) t) ≤ length (now area) ⌝ }
+    ensures { λ r. ⌜ Written (witnessOf (graph (now (bytes .entry))) t) (now (area .entry)) (now (area .exit)) r ⌝ }
 {
-    let tally = sheet.tally;
-    let n = tally.rows;
     let mut stand = start(cells, n, t);
     if stand.work == 0 {
         return 0;
     }
-    let lengths = job_lengths(sheet);
     let mut count: usize = 0;
     loop {
         let k = stand.row;
@@ -98,7 +116,7 @@ fn write_witness(bytes: &[u8], sheet: Sheet, cells: &[u32], t: usize, area: &mut
         if stand.work <= own {
             return count;
         }
-        let row = sheet.rows[k];
+        let row = row_at(bytes, places[k]);
         stand = onward(bytes, cells, row, own, n, stand);
     }
 }

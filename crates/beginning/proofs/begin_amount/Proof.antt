@@ -5,7 +5,7 @@ use Rattle.beginning.proofs.begin_amount.Statement.{statement}
 use Rattle.beginning.proofs.begin_amount.Tie as tie
 
 returns : tie.Need-returns
-returns c = begun-in-lines _ _ _ _ _ _ (c .before .amount-lines .ensures .0) (amount-some _) (c .begin .ensures)
+returns c = begun-in-lines _ _ _ _ _ _ _ (c .before .before .amount-lines .ensures .0) (amount-some _) (c .begin .ensures)
 
 pub begin-amount-spec : {M : Type 1} → statement M
 begin-amount-spec =

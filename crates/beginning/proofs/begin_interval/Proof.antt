@@ -6,7 +6,7 @@ use Rattle.beginning.proofs.begin_interval.Statement.{statement}
 use Rattle.beginning.proofs.begin_interval.Tie as tie
 
 returns : tie.Need-returns
-returns c = begun-in-lines _ _ _ _ _ _ (c .before .interval-lines .ensures .0) (λ range. omega arith) (c .begin .ensures)
+returns c = begun-in-lines _ _ _ _ _ _ _ (c .before .before .interval-lines .ensures .0) (λ range. omega arith) (c .begin .ensures)
 
 pub begin-interval-spec : {M : Type 1} → statement M
 begin-interval-spec =

@@ -1,39 +1,34 @@
 -- `write_witness` meets its contract. The rows passed are written, and the witness goes on from where it stands.
 use Prim.Native.Nat.{ℕ, _+_, _-_, _<_}
-use borrow.Author.Needs.{needs}
 use denote.Ref.{now}
-use lib.ListN.{length, getD, set, length-set}
+use lib.ListN.{length, set, length-set}
 use mathlib.Core.List.{List, []}
 use mathlib.Core.Path.{_≡_, subst}
 use native.Mathlib.Omega.{arith}
+use Rattle.beginning.specs.Beginning.{graph}
 use Rattle.fields.specs.Limits.{rowLimit}
-use Rattle.sheet.specs.Meaning.{lengthOf, graphOf}
 use Rattle.witness.specs.Stands.{Written}
 use Rattle.witness.proofs.Witnesses.{OnWay, way-room}
-use Rattle.witness.proofs.Steps.{starts-none, starts, step-row, step-few, step-last, step-asks, step-on}
+use Rattle.witness.proofs.Steps.{starts-none, starts, step-row, step-inside, step-few, step-last, step-asks, step-on}
 use Rattle.witness.proofs.Writing.{written-none, written-length, written-more}
 use Rattle.witness.proofs.write_witness.Statement.{statement}
 use Rattle.witness.proofs.write_witness.Tie as tie
 
 abbrev Inv-loop : tie.InvT-loop
-Inv-loop bytes cells t area₀ sheet n stand₀ lengths count₀ area stand count =
-    (before : List ℕ) × OnWay (graphOf bytes sheet) t before stand × Written before area₀ area count
+Inv-loop bytes places lengths n cells t area₀ stand₀ count₀ area stand count =
+    (before : List ℕ) × OnWay (graph bytes) t before stand × Written before area₀ area count
 
 abbrev μ-loop : tie.MeasureT-loop
-μ-loop bytes cells t area₀ sheet n stand₀ lengths count₀ area stand count = t - count
+μ-loop bytes places lengths n cells t area₀ stand₀ count₀ area stand count = t - count
 
 abbrev start : tie.At-loop Inv-loop μ-loop → tie.Start Inv-loop μ-loop
-start c = c .before .before .before .before .before .before .before .before .before
+start c = c .before .before .before .before .before .before .before
 
 row-few : (c : tie.At-loop Inv-loop μ-loop) → c .loop .stand .row < rowLimit
-row-few c = step-row _ _ (start c .pre .0) _ _ (start c .pre .1 .1 .0) _ _ (c .loop .inv .1)
+row-few c = step-row _ _ _ _ (start c .pre .0) _ _ (start c .pre .1 .1 .0) _ _ (c .loop .inv .1)
 
 few : (c : tie.At-loop Inv-loop μ-loop) → c .loop .count < start c .args .t
-few c = omega (arith, c .loop .inv .2 .counted, step-few _ _ (start c .pre .0) _ _ (start c .pre .1 .1 .0) _ _ (c .loop .inv .1))
-
--- the row's length is the one worked out before the loop
-own-is : (c : tie.At-loop Inv-loop μ-loop) → getD (c .before .job-lengths .result) (c .loop .stand .row) 0 ≡ lengthOf (start c .args .t2) (c .loop .stand .row)
-own-is c = c .before .job-lengths .ensures (c .loop .stand .row) (row-few c)
+few c = omega (arith, c .loop .inv .2 .counted, step-few _ _ _ _ (start c .pre .0) _ _ (start c .pre .1 .1 .0) _ _ (c .loop .inv .1))
 
 -- the area has room for a row more
 room : (c : tie.At-loop Inv-loop μ-loop) → length (c .loop .inv .0) < length (now (start c .args .area))
@@ -43,19 +38,19 @@ same : (c : tie.At-loop Inv-loop μ-loop) → length (c .loop .area) ≡ length 
 same c = written-length _ _ _ _ (c .loop .inv .2) (omega (arith, room c))
 
 start-requires : tie.Need-start-requires Inv-loop μ-loop
-start-requires c κs = c .before .before .before .before .pre .1 .1 .0 .room
+start-requires c κs = c .before .before .before .pre .1 .1 .0 .room
 
 returns : tie.Need-returns Inv-loop μ-loop
 returns c =
-    let b = c .before .before .before .before .before .before .before in
+    let b = c .before .before .before .before .before .before in
     subst (λ (w : List ℕ). Written w (now (b .args .area)) (now (b .args .area)) 0)
-    (starts-none _ _ (b .pre .0) _ _ (b .pre .1 .1 .0) _ (c .before .before .start .ensures) (c .if1 .taken))
+    (starts-none _ _ _ _ (b .pre .0) _ _ (b .pre .1 .1 .0) _ (c .before .before .start .ensures) (c .if1 .taken))
     (written-none (now (b .args .area)))
 
 loop-holds : tie.Need-loop-holds Inv-loop μ-loop
 loop-holds c =
-    let b = c .before .before .before .before .before .before .before .before in
-    ([], starts _ _ (b .pre .0) _ _ (b .pre .1 .1 .0) _ (c .before .before .before .start .ensures) (c .before .if1 .left), written-none _)
+    let b = c .before .before .before .before .before .before in
+    ([], starts _ _ _ _ (b .pre .0) _ _ (b .pre .1 .1 .0) _ (c .before .before .start .ensures) (c .if1 .left), written-none _)
 
 cast-area : tie.Need-cast-area Inv-loop μ-loop
 cast-area c = omega (arith, row-few c)
@@ -69,38 +64,43 @@ add-count c = omega (arith, few c, start c .pre .1 .0)
 mul-own : tie.Need-mul-own Inv-loop μ-loop
 mul-own c = omega (arith, row-few c)
 
-array-read-own : tie.Need-array-read-own Inv-loop μ-loop
-array-read-own c = omega (arith, row-few c)
+element-copy-out-own : tie.Need-element-copy-out-own Inv-loop μ-loop
+element-copy-out-own c = omega (arith, row-few c)
 
 same-length : tie.Need-same-length Inv-loop μ-loop
-same-length c = rw length-set (same (c .before .before))
+same-length c = rw length-set (same (c .before .before .before))
 
 returns-2 : tie.Need-returns-2 Inv-loop μ-loop
 returns-2 c =
-    let l = c .before .before in
+    let l = c .before .before .before in
     subst (λ (w : List ℕ). Written w (now (start l .args .area)) (set (l .loop .area) (l .loop .count) (l .loop .stand .row)) (l .loop .count + 1))
-    (step-last _ _ (start l .pre .0) _ _ (start l .pre .1 .1 .0) _ _ (l .loop .inv .1) _ (own-is l) (c .if2 .taken))
+    (step-last _ _ _ _ (start l .pre .0) _ _ (start l .pre .1 .1 .0) _ _ (l .loop .inv .1) (c .if2 .taken))
     (written-more _ _ _ _ (l .loop .inv .2) (l .loop .stand .row) (room l))
 
-mul-row : tie.Need-mul-row Inv-loop μ-loop
-mul-row c = omega (arith, row-few (c .before .before))
+mul-row-at : tie.Need-mul-row-at Inv-loop μ-loop
+mul-row-at c = omega (arith, row-few (c .before .before .before))
 
-element-copy-out-row : tie.Need-element-copy-out-row Inv-loop μ-loop
-element-copy-out-row c = omega (arith, row-few (c .before .before))
+element-copy-out-row-at : tie.Need-element-copy-out-row-at Inv-loop μ-loop
+element-copy-out-row-at c = omega (arith, row-few (c .before .before .before))
+
+row-at-requires : tie.Need-row-at-requires Inv-loop μ-loop
+row-at-requires c κs =
+    let l = c .before .before .before .before in
+    step-inside _ _ _ _ (start l .pre .0) _ _ (start l .pre .1 .1 .0) _ _ (l .loop .inv .1)
 
 onward-requires : tie.Need-onward-requires Inv-loop μ-loop
 onward-requires c κs =
-    let l = c .before .before .before in
-    step-asks _ _ (start l .pre .0) _ _ (start l .pre .1 .1 .0) _ _ (l .loop .inv .1) _ (own-is l) (c .before .if2 .left)
+    let l = c .before .before .before .before .before in
+    step-asks _ _ _ _ (start l .pre .0) _ _ (start l .pre .1 .1 .0) _ _ (l .loop .inv .1) (c .before .before .if2 .left) _ (c .row-at .ensures)
 
 loop-less : tie.Need-loop-less Inv-loop μ-loop
-loop-less c = omega (arith, few (c .before .before .before .before))
+loop-less c = omega (arith, few (c .before .before .before .before .before .before))
 
 loop-again : tie.Need-loop-again Inv-loop μ-loop
 loop-again c =
-    let l = c .before .before .before .before in (
+    let l = c .before .before .before .before .before .before in (
       _,
-      step-on _ _ (start l .pre .0) _ _ (start l .pre .1 .1 .0) _ _ (l .loop .inv .1) _ (own-is l) (c .before .before .if2 .left) _ (c .onward .ensures),
+      step-on _ _ _ _ (start l .pre .0) _ _ (start l .pre .1 .1 .0) _ _ (l .loop .inv .1) (c .before .before .before .if2 .left) _ (c .before .row-at .ensures) _ (c .onward .ensures),
       written-more _ _ _ _ (l .loop .inv .2) (l .loop .stand .row) (room l),
     )
 
@@ -112,17 +112,17 @@ write-witness-spec =
     μ-loop
     start-requires
     returns
-    (λ c κs. search needs)
     loop-holds
     cast-area
     slice-write-area
     add-count
     mul-own
-    array-read-own
+    element-copy-out-own
     same-length
     returns-2
-    mul-row
-    element-copy-out-row
+    mul-row-at
+    element-copy-out-row-at
+    row-at-requires
     onward-requires
     loop-less
     loop-again)

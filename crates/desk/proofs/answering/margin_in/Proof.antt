@@ -1,10 +1,10 @@
 -- `margin_in` meets its contract: what it reads off the filled lines is the demand, and the two demands together fit well.
 use Prim.Native.Nat.{_^_, ℕ, _+_, _<_, _*_, _≤_}
+use Rattle.beginning.specs.Beginning.{graph}
 use Rattle.tables.specs.Lines.{HasLines}
-use Rattle.desk.proofs.Telling.{room-told, lines-told, margin-told, difference-kept}
+use Rattle.desk.proofs.Telling.{tasks-proper, room-told, lines-told, margin-told, difference-kept}
 use Rattle.desk.proofs.answering.margin_in.Statement.{statement}
-use Rattle.sheet.proofs.ProperTasks.{tasks-fit}
-use Rattle.sheet.specs.Meaning.{graphOf}
+use Rattle.overruns.proofs.ProperTasks.{tasks-fit}
 use Rattle.meaning.specs.Cells.{ByInterval}
 use borrow.Author.Needs.{needs}
 use denote.Ref.{now}
@@ -17,33 +17,35 @@ use native.Mathlib.Omega.{arith}
 use Rattle.desk.proofs.answering.margin_in.Tie as tie
 
 -- there is room for the lines of the sheet
-room : (s : tie.Start) → s .args .sheet .tally .rows * (s .args .t + 1) ≤ length (now (s .args .cells))
-room s = room-told _ _ (s .pre .1 .0) (s .pre .0) (s .args .t + 1) (now (s .args .cells)) (s .pre .1 .1 .1)
+room : (s : tie.Start) → s .args .head .tally .rows * (s .args .t + 1) ≤ length (now (s .args .cells))
+room s = room-told _ _ _ (s .pre .0) (s .args .t + 1) (now (s .args .cells)) (s .pre .1 .1)
 
-fill-by-interval-requires : tie.Need-fill-by-interval-requires
-fill-by-interval-requires c κs =
-    let s = c .before .before .before in
-    (s .pre .0, (s .pre .1 .1 .0, room s))
+fill-requires : tie.Need-fill-requires
+fill-requires c κs =
+    let s = c .before .before .before .before .before .before in
+    (c .before .before .job-lengths .ensures, (omega (arith, s .pre .1 .0), room s))
 
 -- the filled lines
-table : (c : tie.After-fill-by-interval) →
-    let a = c .before .before .before .before .args in
-    HasLines (a .sheet .tally .rows) (ByInterval (graphOf (now (a .bytes)) (a .sheet))) (c .fill-by-interval .last .1 .1 .0) (a .t + 1)
+table : (c : tie.After-fill) →
+    let a = c .before .before .before .before .before .before .before .args in
+    HasLines (a .head .tally .rows) (ByInterval (graph (now (a .bytes)))) (c .fill .last .1 .1 .1 .1 .1 .0) (a .t + 1)
 table c =
-    let s = c .before .before .before .before in
-    lines-told _ _ (s .pre .1 .0) (s .pre .0) _ _ _ (room s) (c .fill-by-interval .ensures)
+    let s = c .before .before .before .before .before .before .before in
+    lines-told _ _ _ (s .pre .0) _ _ _ (room s) (c .fill .ensures)
 
 demand-of-requires : tie.Need-demand-of-requires
-demand-of-requires c κs = table (c .before .before .before .before) .room
+demand-of-requires c κs = table (c .before .before .before) .room
 
 fixed-sum-requires : tie.Need-fixed-sum-requires
-fixed-sum-requires c κs = ((_, c .before .before .before .before .before .before .before .before .before .pre .0 .proper), c .before .before .before .before .before .before .before .before .before .pre .1 .1 .0)
+fixed-sum-requires c κs =
+    let s = c .before .before .before .before .before .before .before .before .before .before .before .before in
+    (tasks-proper _ _ _ (s .pre .0), s .pre .1 .0)
 
 -- fixed demand is small
 sum-fits : (c : tie.After-fixed-sum) → c .fixed-sum .result < 2 ^ 48
 sum-fits c =
-    let s = c .before .before .before .before .before .before .before .before .before .before in
-    subst (λ (x : ℕ). x < 2 ^ 48) (sym (c .fixed-sum .ensures)) (tasks-fit _ _ (s .pre .0 .proper) _ (s .pre .1 .1 .0))
+    let s = c .before .before .before .before .before .before .before .before .before .before .before .before .before in
+    subst (λ (x : ℕ). x < 2 ^ 48) (sym (c .fixed-sum .ensures)) (tasks-fit _ _ (tasks-proper _ _ _ (s .pre .0)) _ (s .pre .1 .0))
 
 add-less : tie.Need-add-less
 add-less c = omega (arith, sum-fits c)
@@ -53,18 +55,22 @@ less-requires c κs = (omega (arith, sum-fits c), omega (arith, sum-fits c))
 
 returns : tie.Need-returns
 returns c =
-    let s = c .before .before .before .before .before .before .before .before .before .before .before in
+    let s = c .before .before .before .before .before .before .before .before .before .before .before .before .before .before in
+    let amount = c .before .before .before .demand-of in
+    let fixed = c .before .fixed-sum in
     let small : s .args .t < 2 ^ 63 = omega arith in
-    let sum : c .before .before .demand-of .result + c .before .fixed-sum .result < 2 ^ 63 = omega (arith, sum-fits (c .before)) in
-    let left : c .less .result ≡ pos (s .args .t) -ℤ pos (c .before .before .demand-of .result + c .before .fixed-sum .result) = c .less .ensures in
-    margin-told _ _ (s .pre .1 .0) (s .pre .0) _ _ _ (room s) (c .before .before .before .before .before .before .before .fill-by-interval .ensures)
-    _ _ _ (c .before .before .demand-of .ensures) (c .before .fixed-sum .ensures) (ap (λ (z : ℤ). toZ w64 (ofZ w64 z)) left ∙ difference-kept _ _ small sum)
+    let sum : amount .result + fixed .result < 2 ^ 63 = omega (arith, sum-fits (c .before)) in
+    let left : c .less .result ≡ pos (s .args .t) -ℤ pos (amount .result + fixed .result) = c .less .ensures in
+    margin-told _ _ _ (s .pre .0) _ _ _ (room s) (c .before .before .before .before .before .before .before .fill .ensures)
+    _ _ _ (amount .ensures) (fixed .ensures) (ap (λ (z : ℤ). toZ w64 (ofZ w64 z)) left ∙ difference-kept _ _ small sum)
 
 pub margin-in-spec : {M : Type 1} → statement M
 margin-in-spec =
     tie.close
     (tie.spec
-    fill-by-interval-requires
+    (λ c κs. search needs)
+    (λ c. search needs)
+    fill-requires
     demand-of-requires
     (λ c. search needs)
     fixed-sum-requires

@@ -11,14 +11,14 @@ use native.Mathlib.Omega.{arith}
 use Rattle.overruns.proofs.tasks.times_of.Tie as tie
 
 abbrev Inv-loop : tie.InvT-loop
-Inv-loop sheet lengths₀ periods₀ dues₀ i₀ lengths periods dues i =
+Inv-loop tasks lengths₀ periods₀ dues₀ i₀ lengths periods dues i =
     (i ≤ taskLimit)
-    × Stored (λ m. getD (sheet .tasks) m noTask .length .0) taskLimit lengths i
-    × Stored (λ m. getD (sheet .tasks) m noTask .period .0) taskLimit periods i
-    × Stored (λ m. getD (sheet .tasks) m noTask .deadline .0) taskLimit dues i
+    × Stored (λ m. getD tasks m noTask .length .0) taskLimit lengths i
+    × Stored (λ m. getD tasks m noTask .period .0) taskLimit periods i
+    × Stored (λ m. getD tasks m noTask .deadline .0) taskLimit dues i
 
 abbrev μ-loop : tie.MeasureT-loop
-μ-loop sheet lengths₀ periods₀ dues₀ i₀ lengths periods dues i = taskLimit - i
+μ-loop tasks lengths₀ periods₀ dues₀ i₀ lengths periods dues i = taskLimit - i
 
 loop-holds : tie.Need-loop-holds Inv-loop μ-loop
 loop-holds c = (omega arith, stored-none _ _, stored-none _ _, stored-none _ _)

@@ -5,24 +5,26 @@ use Rattle.sheet.proofs.judging.with_field.Statement.{statement}
 use Rattle.fields.proofs.Deciding.{Kept}
 use Rattle.sheet.specs.Judging.{headRules, withField}
 use Rattle.fields.specs.Limits.{modeLimit, taskLimit}
+use Rattle.sheet.specs.Outline.{headOf, sheetFrom}
 use Rattle.sheet.specs.Values.{withMode, withRow, withTask}
 use borrow.Author.Needs.{needs}
 use denote.Ref.{now}
+use mathlib.Core.List.{[]}
 use mathlib.Core.Path.{_∙_, refl, ap}
 use native.Mathlib.Omega.{arith}
 use Rattle.sheet.proofs.judging.with_field.Tie as tie
 
 -- the first rules are kept, so the content is long enough and there is room
-kept : (s : tie.Start) → let a = s .args in Kept (headRules (now (a .bytes)) (a .sheet .tally) (a .kind) (a .start) (a .size))
+kept : (s : tie.Start) → let a = s .args in Kept (headRules (now (a .bytes)) (a .head .tally) (a .kind) (a .start) (a .size))
 kept s = first-kept _ _ _ _ _ (s .pre .1)
 
-mode : (c : tie.After-enum-told3) → let a = c .before .before .before .args in (4 ≤ a .size) × (a .sheet .tally .modes < modeLimit)
+mode : (c : tie.After-enum-told3) → let a = c .before .before .before .args in (4 ≤ a .size) × (a .head .tally .modes < modeLimit)
 mode c = mode-fits _ _ _ _ _ (c .enum-told3 .given .1) (kept (c .before .before .before))
 
-row : (c : tie.After-enum-told4) → let a = c .before .before .before .args in RowFits (now (a .bytes)) (a .sheet .tally) (a .start) (a .size)
+row : (c : tie.After-enum-told4) → let a = c .before .before .before .args in RowFits (now (a .bytes)) (a .head .tally) (a .start) (a .size)
 row c = row-fits _ _ _ _ _ (c .enum-told4 .given .1) (kept (c .before .before .before))
 
-task : (c : tie.After-enum-told5) → let a = c .before .before .before .args in (6 ≤ a .size) × (a .sheet .tally .tasks < taskLimit)
+task : (c : tie.After-enum-told5) → let a = c .before .before .before .args in (6 ≤ a .size) × (a .head .tally .tasks < taskLimit)
 task c = task-fits _ _ _ _ _ (c .enum-told5 .given .1) (kept (c .before .before .before))
 
 mode-at-requires : tie.Need-mode-at-requires
@@ -53,15 +55,15 @@ returns-2 c = rw (c .before .enum-told2 .given .1) (c .with-label .ensures)
 
 returns-3 : tie.Need-returns-3
 unfolding withField
-returns-3 c = rw (c .before .before .enum-told3 .given .1) (c .with-mode .ensures ∙ ap (λ v. withMode (c .before .before .before .before .before .args .sheet) v) (c .before .mode-at .ensures))
+returns-3 c = rw (c .before .before .enum-told3 .given .1) (c .with-mode .ensures ∙ ap (λ v. headOf (withMode (sheetFrom (c .before .before .before .before .before .args .head) []) v)) (c .before .mode-at .ensures))
 
 returns-4 : tie.Need-returns-4
 unfolding withField
-returns-4 c = rw (c .before .before .enum-told4 .given .1) (c .with-row .ensures ∙ ap (λ v. withRow (c .before .before .before .before .before .args .sheet) v) (c .before .row-at .ensures))
+returns-4 c = rw (c .before .before .enum-told4 .given .1) (c .with-row .ensures ∙ ap (λ v. headOf (withRow (sheetFrom (c .before .before .before .before .before .args .head) []) v)) (c .before .row-at .ensures))
 
 returns-5 : tie.Need-returns-5
 unfolding withField
-returns-5 c = rw (c .before .before .enum-told5 .given .1) (c .with-task .ensures ∙ ap (λ v. withTask (c .before .before .before .before .before .args .sheet) v) (c .before .task-at .ensures))
+returns-5 c = rw (c .before .before .enum-told5 .given .1) (c .with-task .ensures ∙ ap (λ v. headOf (withTask (sheetFrom (c .before .before .before .before .before .args .head) []) v)) (c .before .task-at .ensures))
 
 returns-6 : tie.Need-returns-6
 unfolding withField

@@ -1,4 +1,4 @@
--- `with_row` meets its contract: the row is stored as it was read, with all its followers, and the tally counts it.
+-- `with_row` meets its contract: the tally counts the row, which is all that the head has of it.
 use borrow.Author.Needs.{needs}
 use mathlib.Core.Path.{refl}
 use Rattle.sheet.proofs.judging.with_row.Statement.{statement}
@@ -8,4 +8,4 @@ returns : tie.Need-returns
 returns c = rw (c .count-row .ensures) refl
 
 pub with-row-spec : {M : Type 1} → statement M
-with-row-spec = tie.close (tie.spec (λ c. search needs) (λ c. search needs) (λ c κs. search needs) returns)
+with-row-spec = tie.close (tie.spec (λ c κs. search needs) returns)

@@ -6,10 +6,10 @@ use Rattle.telling.proofs.curve.print_fixed_rises.Statement.{statement}
 use Rattle.telling.proofs.curve.print_fixed_rises.Tie as tie
 
 abbrev Inv-loop : tie.InvT-loop
-Inv-loop sheet horizon interval₀ interval = interval ≤ horizon + 1
+Inv-loop tasks count horizon interval₀ interval = interval ≤ horizon + 1
 
 abbrev μ-loop : tie.MeasureT-loop
-μ-loop sheet horizon interval₀ interval = horizon + 1 - interval
+μ-loop tasks count horizon interval₀ interval = horizon + 1 - interval
 
 next-fixed-rise-requires : tie.Need-next-fixed-rise-requires Inv-loop μ-loop
 next-fixed-rise-requires c κs = (c .pre .0, (c .pre .1, (omega arith, omega arith)))

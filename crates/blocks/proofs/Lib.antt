@@ -1,0 +1,4 @@
+pub mod Lanes
+pub mod Passing
+pub mod Raising
+pub mod Leaving
