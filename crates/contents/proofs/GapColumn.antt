@@ -17,6 +17,7 @@ use Rattle.fields.proofs.Deciding.{yes}
 use Rattle.rules.specs.Rules.{followerCount}
 use Rattle.sheet.specs.Judging.{judged}
 use Rattle.sheet.specs.Meaning.{rowsIn, rowOf, gapOf, graphOf}
+use Rattle.sheet.specs.Outline.{headOf}
 use Rattle.written.specs.Reading.{wordsAt, gapsOf, allGaps, valuesIn, valuesOf}
 use Rattle.written.proofs.Columns.{words-count}
 use Rattle.fields.specs.declared.values.Row.{Row}
@@ -76,7 +77,7 @@ module _ (bytes : List ℕ) (from to : ℕ) (counted : from < judged bytes .shee
 
   -- its followers are told
   told : row .followers ≡ rowNumbered bytes from .followers
-  told = ap (λ (values : RowValues). values .followers) (row-told bytes (judged bytes) refl from _ _ refl refl counted)
+  told = ap (λ (values : RowValues). values .followers) (row-told bytes (headOf (judged bytes .sheet)) refl from _ _ refl refl counted)
 
   -- its gap to a follower
   held : member (row .followers) to ≡ true

@@ -9,6 +9,7 @@ use Rattle.meaning.proofs.Tests.{lt-or}
 use Rattle.fields.specs.Values.{noMode, noRow, noTask}
 use Rattle.sheet.specs.Judging.{judged}
 use Rattle.sheet.specs.Meaning.{modesIn, rowsIn, tasksIn, graphOf, timesOf, eachTask, tasksOf}
+use Rattle.sheet.specs.Outline.{headOf}
 use Rattle.written.specs.Reading.{valuesIn, valuesOf}
 use Rattle.fields.specs.declared.values.Row.{Row}
 use Rattle.fields.specs.declared.values.Sheet.{Sheet}
@@ -37,15 +38,15 @@ module _ (bytes : List ℕ) where
   module _ (number : ℕ) (counted : number < sheet .tally .rows) where
     pub graph-length : graphOf bytes sheet .length number ≡ rowNumbered bytes number .length .0
     unfolding graphOf
-    graph-length = ap (λ (row : RowValues). row .length .0) (row-told bytes (judged bytes) refl number _ _ refl refl counted)
+    graph-length = ap (λ (row : RowValues). row .length .0) (row-told bytes (headOf (judged bytes .sheet)) refl number _ _ refl refl counted)
 
     pub graph-deadline : graphOf bytes sheet .deadline number ≡ rowNumbered bytes number .deadline .0
     unfolding graphOf
-    graph-deadline = ap (λ (row : RowValues). row .deadline .0) (row-told bytes (judged bytes) refl number _ _ refl refl counted)
+    graph-deadline = ap (λ (row : RowValues). row .deadline .0) (row-told bytes (headOf (judged bytes .sheet)) refl number _ _ refl refl counted)
 
     pub graph-gap : (to : ℕ) → graphOf bytes sheet .gap number to ≡ gapNumbered bytes number to .0
     unfolding graphOf
-    graph-gap to = ap (λ gap. gap .0) (gap-told bytes (judged bytes) refl number to _ _ refl refl counted)
+    graph-gap to = ap (λ gap. gap .0) (gap-told bytes (headOf (judged bytes .sheet)) refl number to _ _ refl refl counted)
 
   pub fixed-task : (number : ℕ) → getD (tasksOf sheet) number (timesOf noTask) ≡ timesOf (taskNumbered bytes number)
   unfolding tasksOf taskNumbered
@@ -70,8 +71,8 @@ module _ (bytes : List ℕ) where
     row-at : ToldRow (getD (rowsIn sheet) number noRow) (rowNumbered bytes number)
     row-at =
         ⊎-elim
-        (λ h. rw (getD-take (sheet .tally .rows) (sheet .rows) number noRow h, ← row-told bytes (judged bytes) refl number _ _ refl refl h) (refl, refl, refl))
-        (λ h. rw (past-count (sheet .tally .rows) (sheet .rows) number noRow h, ← row-past bytes (judged bytes) refl number h) (refl, refl, refl))
+        (λ h. rw (getD-take (sheet .tally .rows) (sheet .rows) number noRow h, ← row-told bytes (headOf (judged bytes .sheet)) refl number _ _ refl refl h) (refl, refl, refl))
+        (λ h. rw (past-count (sheet .tally .rows) (sheet .rows) number noRow h, ← row-past bytes (headOf (judged bytes .sheet)) refl number h) (refl, refl, refl))
         (lt-or number (sheet .tally .rows))
 
     pub speed-column : getD (valuesOf bytes .speeds) number 0 ≡ rowNumbered bytes number .speed .0

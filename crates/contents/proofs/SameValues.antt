@@ -12,6 +12,7 @@ use Rattle.fields.specs.Deciding.{pick}
 use Rattle.fields.specs.Values.{noRow}
 use Rattle.sheet.specs.Judging.{judged}
 use Rattle.sheet.specs.Meaning.{modesIn, rowsIn, tasksIn, rowOf, gapOf, graphOf, eachTask, tasksOf}
+use Rattle.sheet.specs.Outline.{headOf}
 use Rattle.sheet.specs.Proper.{Bytes, ProperRow}
 use Rattle.sheet.proofs.Accepted.{accepted-proper}
 use Rattle.sheet.proofs.Growing.{all-there}
@@ -63,7 +64,7 @@ no-gap : (bytes : List ℕ) (from to : ℕ) → from < judged bytes .sheet .tall
 unfolding graphOf pick
 no-gap bytes from to counted none =
     let followers : rowOf (judged bytes .sheet) from .followers ≡ rowNumbered bytes from .followers =
-    ap (λ (values : RowValues). values .followers) (row-told bytes (judged bytes) refl from _ _ refl refl counted) in
+    ap (λ (values : RowValues). values .followers) (row-told bytes (headOf (judged bytes .sheet)) refl from _ _ refl refl counted) in
     let gap : gapOf bytes (rowOf (judged bytes .sheet) from) to ≡ 0 = rw (followers, none) refl in
     sym (graph-gap bytes from counted to) ∙ gap
 
@@ -92,7 +93,7 @@ module _ (one other : List ℕ) (fit : Bytes one) (fits : Bytes other) (accepted
 
     speed-of : (bytes : List ℕ) → k < judged bytes .sheet .tally .rows → rowOf (judged bytes .sheet) k .speed ≡ record { 0 = getD (valuesOf bytes .speeds) k 0 }
     speed-of bytes there =
-        ap (λ (values : RowValues). values .speed) (row-told bytes (judged bytes) refl k _ _ refl refl there) ∙ ap (λ (n : ℕ). record { 0 = n }) (sym (speed-column bytes k))
+        ap (λ (values : RowValues). values .speed) (row-told bytes (headOf (judged bytes .sheet)) refl k _ _ refl refl there) ∙ ap (λ (n : ℕ). record { 0 = n }) (sym (speed-column bytes k))
 
     same-length : graphOf one (judged one .sheet) .length k ≡ graphOf other (judged other .sheet) .length k
     unfolding graphOf

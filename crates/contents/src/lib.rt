@@ -9,7 +9,8 @@ use fields::values::Task;
 use modes::job_length;
 use sets::WIDTH;
 use sets::below_row;
-use sheet::judge;
+use sheet::outline_of;
+use sheet::rows::row_at;
 ghost use mathlib.Core.Path.{_≡_};
 ghost use Prim.Native.Nat.{_≤_};
 ghost use lib.ListN.{length};
@@ -29,27 +30,25 @@ pub struct RowValues {
 pub fn mode_numbered(bytes: &[u8], number: usize) -> Mode
     ensures { λ r. ⌜ r ≡ modeNumbered (now (bytes .entry)) number ⌝ }
 {
-    let judged = judge(bytes);
-    let sheet = judged.sheet;
-    let tally = sheet.tally;
-    let modes = sheet.modes;
+    let mut places = [0usize; Sheet::ROWS];
+    let outline = outline_of(bytes, &mut places);
+    let head = outline.head;
+    let tally = head.tally;
+    let modes = head.modes;
     if number < tally.modes {
         return modes[number];
     }
-    Mode {
-        boundary: Rpm(0),
-        length: Ticks(0),
-        fallback: Rpm(0),
-    }
+    Mode::NONE
 }
 
 // The row of a number, with its job length.
 pub fn row_numbered(bytes: &[u8], number: usize) -> RowValues
     ensures { λ r. ⌜ r ≡ rowNumbered (now (bytes .entry)) number ⌝ }
 {
-    let judged = judge(bytes);
-    let sheet = judged.sheet;
-    let tally = sheet.tally;
+    let mut places = [0usize; Sheet::ROWS];
+    let outline = outline_of(bytes, &mut places);
+    let head = outline.head;
+    let tally = head.tally;
     if tally.rows <= number {
         return RowValues {
             speed: Rpm(0),
@@ -58,8 +57,8 @@ pub fn row_numbered(bytes: &[u8], number: usize) -> RowValues
             length: Ticks(0),
         };
     }
-    let modes = sheet.modes;
-    let row = sheet.rows[number];
+    let modes = head.modes;
+    let row = row_at(bytes, places[number]);
     let speed = row.speed;
     let deadline = row.deadline;
     let length = job_length(modes, tally.modes, speed);
@@ -75,13 +74,14 @@ pub fn row_numbered(bytes: &[u8], number: usize) -> RowValues
 pub fn gap_numbered(bytes: &[u8], from: usize, to: usize) -> Ticks
     ensures { λ r. ⌜ r ≡ gapNumbered (now (bytes .entry)) from to ⌝ }
 {
-    let judged = judge(bytes);
-    let sheet = judged.sheet;
-    let tally = sheet.tally;
+    let mut places = [0usize; Sheet::ROWS];
+    let outline = outline_of(bytes, &mut places);
+    let head = outline.head;
+    let tally = head.tally;
     if tally.rows <= from {
         return Ticks(0);
     }
-    gap_in(bytes, sheet.rows[from], to)
+    gap_in(bytes, row_at(bytes, places[from]), to)
 }
 
 // The gap from a row to a follower, 0 where it is none. Gaps stand one for each follower, so the followers below give its place.
@@ -109,16 +109,13 @@ fn follows(followers: u64, row: usize) -> bool
 pub fn task_numbered(bytes: &[u8], number: usize) -> Task
     ensures { λ r. ⌜ r ≡ taskNumbered (now (bytes .entry)) number ⌝ }
 {
-    let judged = judge(bytes);
-    let sheet = judged.sheet;
-    let tally = sheet.tally;
-    let tasks = sheet.tasks;
+    let mut places = [0usize; Sheet::ROWS];
+    let outline = outline_of(bytes, &mut places);
+    let head = outline.head;
+    let tally = head.tally;
+    let tasks = head.tasks;
     if number < tally.tasks {
         return tasks[number];
     }
-    Task {
-        length: Ticks(0),
-        period: Ticks(0),
-        deadline: Ticks(0),
-    }
+    Task::NONE
 }

@@ -41,6 +41,10 @@ pub fn job_lengths(bytes: &[u8], head: Head, places: &[usize; Sheet::ROWS]) -> [
     let modes = head.modes;
     let n = tally.rows;
     let mut lengths = [0u32; Sheet::ROWS];
+    // No accepted sheet is without modes. Where it is said, the compiler makes no loop of zeros, which would need one more function of C's library.
+    if tally.modes == 0 {
+        return lengths;
+    }
     let mut k: usize = 0;
     while k < n {
         let row = row_at(bytes, places[k]);

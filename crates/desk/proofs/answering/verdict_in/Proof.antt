@@ -1,5 +1,6 @@
 -- `verdict_in` meets its contract: all lines are filled, and the sweep over them gives the verdict.
 use Prim.Native.Nat.{ℕ, _+_, _*_, _≤_}
+use Rattle.tables.proofs.Lines.{room-for-fewer}
 use Rattle.desk.proofs.Telling.{tasks-proper, room-told, verdict-told}
 use Rattle.desk.proofs.answering.verdict_in.Statement.{statement}
 use borrow.Author.Needs.{needs}
@@ -16,7 +17,7 @@ room s = room-told _ _ _ (s .pre .0) (s .args .horizon + 1) (now (s .args .cells
 fill-requires : tie.Need-fill-requires
 fill-requires c κs =
     let s = c .before .before .before .before .before .before in
-    (c .before .before .job-lengths .ensures, (omega (arith, s .pre .1 .0), room s))
+    (c .before .before .job-lengths .ensures, (omega (arith, s .pre .1 .0), room-for-fewer _ (s .args .horizon + 1) _ _ (omega arith) (room s)))
 
 sweep-requires : tie.Need-sweep-requires
 sweep-requires c κs =

@@ -10,7 +10,7 @@ use Rattle.explain.specs.declared.looking.Tightest.the-variants.{Overrun
 use Rattle.meaning.specs.Cells.{ByInterval, Filled}
 use Rattle.meaning.specs.Computed.{witnessOf}
 use Rattle.overruns.specs.Releases.{countedTasks}
-use Rattle.tables.proofs.Lines.{filled-lines}
+use Rattle.tables.proofs.Lines.{filled-lines, room-for-fewer}
 use Rattle.tables.specs.Lines.{HasLines}
 use Rattle.witness.specs.Stands.{IsShown}
 use borrow.Author.Needs.{needs}
@@ -27,7 +27,7 @@ room s = room-told _ _ _ (s .pre .0) (s .args .horizon + 1) (now (s .args .cells
 fill-requires : tie.Need-fill-requires
 fill-requires c κs =
     let s = c .before .before .before .before .before .before .before .before in
-    (c .before .before .job-lengths .ensures, (omega (arith, s .pre .1 .0), room s))
+    (c .before .before .job-lengths .ensures, (omega (arith, s .pre .1 .0), room-for-fewer _ (s .args .horizon + 1) _ _ (omega arith) (room s)))
 
 -- the lines up to the horizon are filled
 filled : (c : tie.After-fill) →

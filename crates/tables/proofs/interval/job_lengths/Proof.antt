@@ -31,6 +31,13 @@ Inv-loop bytes places tally modes n lengths₀ k₀ lengths k = (k ≤ n) × Sto
 abbrev μ-loop : tie.MeasureT-loop
 μ-loop bytes places tally modes n lengths₀ k₀ lengths k = n - k
 
+-- no accepted sheet is without modes
+returns : tie.Need-returns Inv-loop μ-loop
+returns c =
+    let s = c .before .before .before .before .before in
+    let same = ap (λ (head : Head). head .tally .modes) (s .pre .same) in
+    absurd (omega (arith, same, s .pre .ready .proper .modes-some, c .if1 .taken))
+
 loop-holds : tie.Need-loop-holds Inv-loop μ-loop
 loop-holds c = (omega arith, stored-none _ _)
 
@@ -40,10 +47,10 @@ same-rows head sheet same = ap (λ (h : Head). h .tally .rows) same
 
 -- the row of the turn is one of the sheet's
 within : (c : tie.In-loop Inv-loop μ-loop) →
-    let s = c .before .before .before .before .before in
+    let s = c .before .before .before .before .before .before .before in
     (c .before .loop .k < judged (now (s .args .bytes)) .sheet .tally .rows) × (c .before .loop .k < rowLimit)
 within c =
-    let s = c .before .before .before .before .before in
+    let s = c .before .before .before .before .before .before .before in
     let same = same-rows (s .args .head) (judged (now (s .args .bytes)) .sheet) (s .pre .same) in
     (omega (arith, same), omega (arith, same, s .pre .rows .most))
 
@@ -54,7 +61,7 @@ element-copy-out-row-at : tie.Need-element-copy-out-row-at Inv-loop μ-loop
 element-copy-out-row-at c = within c .1
 
 row-at-requires : tie.Need-row-at-requires Inv-loop μ-loop
-row-at-requires c κs = c .before .before .before .before .before .before .pre .rows .inside _ (within (c .before) .0)
+row-at-requires c κs = c .before .before .before .before .before .before .before .before .pre .rows .inside _ (within (c .before) .0)
 
 mul-lengths : tie.Need-mul-lengths Inv-loop μ-loop
 mul-lengths c = omega (arith, within (c .before .before .before .before))
@@ -69,13 +76,13 @@ loop-again : tie.Need-loop-again Inv-loop μ-loop
 loop-again c =
     let i = c .before .before .before .before in
     let l = i .before .loop in
-    let head = i .before .before .before .before .before .args .head in
+    let head = i .before .before .before .before .before .before .before .args .head in
     let is = ap (λ (row : Row). jobLength (take (head .tally .modes) (head .modes)) (row .speed) .0) (c .before .before .row-at .ensures) in
     (omega arith, stored-more _ _ _ _ _ (l .inv .1) (within i .1) (ap (λ (time : Ticks). time .0) (c .before .job-length .ensures) ∙ is))
 
-returns : tie.Need-returns Inv-loop μ-loop
-returns c =
-    let s = c .before .before .before .before .before in
+returns-2 : tie.Need-returns-2 Inv-loop μ-loop
+returns-2 c =
+    let s = c .before .before .before .before .before .before .before in
     let sheet = judged (now (s .args .bytes)) .sheet in
     let same = same-rows (s .args .head) sheet (s .pre .same) in
     record {
@@ -96,6 +103,7 @@ job-lengths-spec =
     (tie.spec
     Inv-loop
     μ-loop
+    returns
     loop-holds
     mul-row-at
     element-copy-out-row-at
@@ -107,4 +115,4 @@ job-lengths-spec =
     add-k
     (λ c. omega arith)
     loop-again
-    returns)
+    returns-2)
