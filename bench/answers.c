@@ -35,8 +35,9 @@ signed_number plain_margin(filling way, const byte_number *bytes, place_number t
     signed_number left = (signed_number)t - largest(&cells[t * sheet.rows], sheet.rows);
     for (place_number i = 0; i < sheet.tasks; i++) {
         const struct task *task = &sheet.task[i];
-        if (task->deadline <= t)
-            left -= (signed_number)task->length * (signed_number)(1 + (t - task->deadline) / task->period);
+        place_number until = t + task->jitter;
+        if (task->deadline <= until)
+            left -= (signed_number)task->length * (signed_number)(1 + (until - task->deadline) / task->period);
     }
     return left;
 }
@@ -61,7 +62,7 @@ place_number plain_tightest(filling way, const byte_number *bytes, place_number 
     read_sheet(bytes, &sheet);
     fill_intervals(way, bytes, &sheet, cells, horizon + 1);
     for (place_number i = 0; i < sheet.tasks; i++)
-        dues[i] = sheet.task[i].deadline;
+        dues[i] = sheet.task[i].deadline - sheet.task[i].jitter;
     for (place_number t = 1; t <= horizon; t++) {
         fixed += due_at(&sheet, dues, t);
         place_number used = largest(&cells[t * sheet.rows], sheet.rows) + fixed;

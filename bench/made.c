@@ -73,17 +73,21 @@ static void put_even_row(made_sheet *made, unsigned rows, unsigned followers)
             put_word(made, deadline + 7 * (follower + row) % 100);
 }
 
-static void put_task(made_sheet *made, unsigned number)
+/* A jitter is half the deadline. */
+static void put_task(made_sheet *made, unsigned number, int has_jitter)
 {
-    put_head(made, 4, 6);
+    unsigned deadline = 1000 + 200 * number;
+    put_head(made, 4, has_jitter ? 8 : 6);
     put_word(made, 100 + number);
     put_word(made, 1000 + 300 * number);
-    put_word(made, 1000 + 200 * number);
+    put_word(made, deadline);
+    if (has_jitter)
+        put_word(made, deadline / 2);
 }
 
 /* Lengths fall with the modes. */
 void make_even_sheet(made_sheet *made, const char *label, unsigned bands, unsigned rows, unsigned followers, unsigned longest,
-                     unsigned tasks)
+                     unsigned tasks, unsigned jitters)
 {
     put_label(made, label);
     for (unsigned i = 0; i < MOST_MODES; i++)
@@ -91,7 +95,7 @@ void make_even_sheet(made_sheet *made, const char *label, unsigned bands, unsign
     while (made->rows < rows)
         put_even_row(made, rows, followers);
     for (unsigned i = 0; i < tasks; i++)
-        put_task(made, i);
+        put_task(made, i, i < jitters);
     put_head(made, 5, 0);
 }
 

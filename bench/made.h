@@ -17,10 +17,10 @@ typedef struct {
 
 /*
  * A sheet whose rows have the same count of followers: each row is followed by itself and the next ones, the first after the
- * last. Deadlines and gaps fall as the speed rises. The first modes have bands, as many as are said.
+ * last. Deadlines and gaps fall as the speed rises. The first modes have bands and the first tasks jitters, as many as are said.
  */
 void make_even_sheet(made_sheet *made, const char *label, unsigned bands, unsigned rows, unsigned followers, unsigned longest,
-                     unsigned tasks);
+                     unsigned tasks, unsigned jitters);
 
 /* A sheet of 32 rows whose followers are chosen in the same way, and whose deadlines and job lengths are below eight ticks. */
 void make_short_sheet(made_sheet *made, unsigned followers);

@@ -40,7 +40,7 @@ static int ratios_only;
 static uint16_t boundaries[MOST_MODES], lengths[MOST_MODES], fallbacks[MOST_MODES];
 static uint16_t speeds[MOST_ROWS], deadlines[MOST_ROWS], gaps[MOST_ROWS * MOST_ROWS];
 static uint64_t follower_sets[MOST_ROWS];
-static uint16_t task_lengths[MOST_TASKS], task_periods[MOST_TASKS], task_deadlines[MOST_TASKS];
+static uint16_t task_lengths[MOST_TASKS], task_periods[MOST_TASKS], task_deadlines[MOST_TASKS], task_jitters[MOST_TASKS];
 static marnipode_values values;
 static plain_values same_values;
 
@@ -137,7 +137,7 @@ static void measure_even(question asked, unsigned rows, unsigned followers, uint
 {
     char said[16];
     snprintf(said, sizeof said, "%u", followers);
-    make_even_sheet(&sheet, "measure", 0, rows, followers, longest_job[asked], 1);
+    make_even_sheet(&sheet, "measure", 0, rows, followers, longest_job[asked], 1, 1);
     measure(asked, said, t);
 }
 
@@ -189,13 +189,14 @@ static void take_values(void)
         task_lengths[i] = task.length;
         task_periods[i] = task.period;
         task_deadlines[i] = task.deadline;
+        task_jitters[i] = task.jitter;
     }
     values = (marnipode_values){sheet.bytes + label.start, label.size, boundaries, lengths, fallbacks, judged.modes, speeds, deadlines,
                                 follower_sets, judged.rows, gaps, gap_count, task_lengths, task_periods, task_deadlines,
-                                judged.tasks};
+                                task_jitters, judged.tasks};
     same_values = (plain_values){sheet.bytes + label.start, label.size, boundaries, lengths, fallbacks, judged.modes, speeds, deadlines,
                                  follower_sets, judged.rows, gaps, gap_count, task_lengths, task_periods, task_deadlines,
-                                 judged.tasks};
+                                 task_jitters, judged.tasks};
 }
 
 static size_t write_ours(void)
@@ -224,9 +225,9 @@ static double time_of_writing(size_t (*write_one)(void), uint8_t *output, int ru
     return (seconds() - began) / WRITES;
 }
 
-static void measure_writing(const char *which, const char *label, unsigned bands, unsigned followers, unsigned tasks)
+static void measure_writing(const char *which, const char *label, unsigned bands, unsigned followers, unsigned tasks, unsigned jitters)
 {
-    make_even_sheet(&sheet, label, bands, MOST_ROWS, followers, longest_job[MARGIN], tasks);
+    make_even_sheet(&sheet, label, bands, MOST_ROWS, followers, longest_job[MARGIN], tasks, jitters);
     take_values();
     double best_ours = 1e9, best_plain = 1e9;
     double began = seconds();
@@ -313,8 +314,8 @@ int main(int argc, char **argv)
     measure_tables();
     measure_growth();
     head_of_writing("Sheets written from values, which are judged first: the largest there is, and a usual one");
-    measure_writing("largest", "A label of 32 bytes, the longest", MOST_MODES - 1, MOST_ROWS, MOST_TASKS);
-    measure_writing("usual", "measure", 0, 3, 2);
+    measure_writing("largest", "A label of 32 bytes, the longest", MOST_MODES - 1, MOST_ROWS, MOST_TASKS, MOST_TASKS);
+    measure_writing("usual", "measure", 0, 3, 2, 0);
     for (side whom = OURS; whom < SIDES; whom++)
         free(cells[whom]);
     return 0;

@@ -21,6 +21,7 @@ typedef struct {
     const column_number *task_lengths;
     const column_number *task_periods;
     const column_number *task_deadlines;
+    const column_number *task_jitters;
     place_number tasks;
 } plain_values;
 

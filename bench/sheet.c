@@ -26,11 +26,12 @@ static void read_row(const byte_number *bytes, place_number start, const struct 
     row->gaps = start + ROW_SIZE;
 }
 
-static void read_task(const byte_number *bytes, place_number start, struct task *task)
+static void read_task(const byte_number *bytes, place_number start, place_number size, struct task *task)
 {
     task->length = word(bytes, start);
     task->period = word(bytes, start + 2);
     task->deadline = word(bytes, start + 4);
+    task->jitter = size == TASK_SIZE ? 0 : word(bytes, start + TASK_SIZE);
 }
 
 void read_sheet(const byte_number *bytes, struct sheet *sheet)
@@ -45,6 +46,6 @@ void read_sheet(const byte_number *bytes, struct sheet *sheet)
         else if (bytes[at] == ROW)
             read_row(bytes, start, sheet, &sheet->row[sheet->rows++]);
         else if (bytes[at] == TASK)
-            read_task(bytes, start, &sheet->task[sheet->tasks++]);
+            read_task(bytes, start, size, &sheet->task[sheet->tasks++]);
     }
 }

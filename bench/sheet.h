@@ -10,10 +10,10 @@ enum { ROWS = 32, TASKS = 16, MODES = 8, LONGEST_TIME = 65535 };
 enum { LABEL = 1, MODE = 2, ROW = 3, TASK = 4, END = 5 };
 
 /*
- * Bytes of a field ahead of its content, of a row's content ahead of its gaps, of a mode's content ahead of a fall-back, and of the
- * content of a task.
+ * Bytes of a field ahead of its content, of a row's content ahead of its gaps, of a mode's content ahead of a fall-back, and of a task's
+ * content ahead of a jitter.
  */
-enum { HEAD_SIZE = 3, ROW_SIZE = 8, GAP_SIZE = 2, MODE_SIZE = 4, FALLBACK_SIZE = 2, TASK_SIZE = 6 };
+enum { HEAD_SIZE = 3, ROW_SIZE = 8, GAP_SIZE = 2, MODE_SIZE = 4, FALLBACK_SIZE = 2, TASK_SIZE = 6, JITTER_SIZE = 2 };
 
 struct mode {
     cell_number boundary, length, fallback;
@@ -26,7 +26,7 @@ struct row {
 };
 
 struct task {
-    cell_number length, period, deadline;
+    cell_number length, period, deadline, jitter;
 };
 
 struct sheet {

@@ -106,12 +106,13 @@ static byte_number judge_rows(const plain_values *values)
     return values->rows == 0 ? OUT_OF_ORDER : 0;
 }
 
+/* A jitter is below its deadline, so that no deadline is 0 either. */
 static byte_number judge_tasks(const plain_values *values)
 {
     for (place_number i = 0; i < values->tasks; i++) {
         if (i == TASKS)
             return TOO_MANY;
-        if (values->task_lengths[i] == 0 || values->task_periods[i] == 0 || values->task_deadlines[i] == 0)
+        if (values->task_lengths[i] == 0 || values->task_periods[i] == 0 || values->task_deadlines[i] <= values->task_jitters[i])
             return OUT_OF_RANGE;
     }
     return 0;
@@ -146,13 +147,25 @@ static place_number size_of_mode(const plain_values *values, place_number i)
     return has_band(values, i) ? MODE_SIZE + FALLBACK_SIZE : MODE_SIZE;
 }
 
+/* A task without a jitter has a shorter field. */
+static int has_jitter(const plain_values *values, place_number i)
+{
+    return values->task_jitters[i] != 0;
+}
+
+static place_number size_of_task(const plain_values *values, place_number i)
+{
+    return has_jitter(values, i) ? TASK_SIZE + JITTER_SIZE : TASK_SIZE;
+}
+
 static place_number size_of_sheet(const plain_values *values)
 {
     place_number size = HEAD_SIZE + values->label_size;
     for (place_number i = 0; i < values->modes; i++)
         size += HEAD_SIZE + size_of_mode(values, i);
-    return size + (HEAD_SIZE + ROW_SIZE) * values->rows + GAP_SIZE * values->gap_count +
-           (HEAD_SIZE + TASK_SIZE) * values->tasks + HEAD_SIZE;
+    for (place_number i = 0; i < values->tasks; i++)
+        size += HEAD_SIZE + size_of_task(values, i);
+    return size + (HEAD_SIZE + ROW_SIZE) * values->rows + GAP_SIZE * values->gap_count + HEAD_SIZE;
 }
 
 /* This and the next ones return the place behind what they put. */
@@ -210,10 +223,12 @@ static byte_number *put_rows(byte_number *at, const plain_values *values)
 static byte_number *put_tasks(byte_number *at, const plain_values *values)
 {
     for (place_number i = 0; i < values->tasks; i++) {
-        at = put_head(at, TASK, TASK_SIZE);
+        at = put_head(at, TASK, size_of_task(values, i));
         at = put_word(at, values->task_lengths[i]);
         at = put_word(at, values->task_periods[i]);
         at = put_word(at, values->task_deadlines[i]);
+        if (has_jitter(values, i))
+            at = put_word(at, values->task_jitters[i]);
     }
     return at;
 }

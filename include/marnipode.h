@@ -31,8 +31,8 @@ extern "C" {
 #endif
 
 /* The version of this header and its archive; as a number, 1.2.3 is 10203. CHANGELOG.md says what a new one changes. */
-#define MARNIPODE_VERSION "2.0.1"
-#define MARNIPODE_VERSION_NUMBER 20001
+#define MARNIPODE_VERSION "3.0.0"
+#define MARNIPODE_VERSION_NUMBER 30000
 
 /* The most modes, rows and fixed tasks of a sheet, and the most bytes of its label. */
 #define MARNIPODE_MOST_MODES 8
@@ -41,7 +41,7 @@ extern "C" {
 #define MARNIPODE_LONGEST_LABEL 32
 
 /* The most bytes that a written sheet has: an output of so many cannot give refusal 15. */
-#define MARNIPODE_MOST_WRITTEN 2652
+#define MARNIPODE_MOST_WRITTEN 2684
 
 /* The highest speed of a sheet, in rpm; its longest time, which is also the longest interval or horizon that can be asked about. */
 #define MARNIPODE_HIGHEST_SPEED 20000
@@ -68,7 +68,7 @@ enum {
     MARNIPODE_REFUSED_BYTES_BEHIND_END = 4,    /* bytes behind the end field */
     MARNIPODE_REFUSED_WRONG_LENGTH = 5,        /* a length that does not fit the tag, or a row's follower set */
     MARNIPODE_REFUSED_TOO_MANY = 6,            /* a mode, row or fixed task more than a sheet may have */
-    MARNIPODE_REFUSED_OUT_OF_RANGE = 7,        /* a number or a byte of the label out of range */
+    MARNIPODE_REFUSED_OUT_OF_RANGE = 7,        /* a number or a byte of the label out of range, such as a jitter at or above its deadline */
     MARNIPODE_REFUSED_NOT_RISING = 8,          /* speeds that do not rise, or a row above the last boundary */
     MARNIPODE_REFUSED_UNKNOWN_FOLLOWER = 9,    /* a follower that is no row of the sheet */
     MARNIPODE_REFUSED_SHORT_GAP = 10,          /* a gap shorter than the deadline of its row */
@@ -199,11 +199,16 @@ typedef struct {
     uint16_t length;
 } marnipode_row_answer;
 
-/* A fixed task. */
+/*
+ * A fixed task: its job length; its period, the least time from one stroke of its clock to the next, with a job at each stroke; its
+ * deadline, counted from the stroke; and its jitter: each job is released up to so many ticks after its clock. In an interval that starts
+ * when a job is released as late as it can be, its deadline is so many ticks nearer. The jitter is 0 for a task released on its clock.
+ */
 typedef struct {
     uint16_t length;
     uint16_t period;
     uint16_t deadline;
+    uint16_t jitter;
 } marnipode_task_answer;
 
 /*
@@ -214,6 +219,9 @@ typedef struct {
  * Every mode has a fall-back, so that column is lent like the others: null stands for no modes, not for no bands. A mode without a
  * band has its boundary there once more, and where no mode has a band the same pointer can be given for both columns. The last mode
  * has no band, since there is no faster one to hang on to.
+ *
+ * Every task has a jitter, so that column is lent like the others too: null stands for no tasks, not for no jitters. A task released on
+ * its clock has 0 there, and where none has a jitter it is a column of zeros.
  */
 typedef struct {
     const uint8_t *label;
@@ -231,6 +239,7 @@ typedef struct {
     const uint16_t *task_lengths;
     const uint16_t *task_periods;
     const uint16_t *task_deadlines;
+    const uint16_t *task_jitters;
     size_t tasks;
 } marnipode_values;
 
@@ -245,8 +254,8 @@ marnipode_field_answer marnipode_field_at(const uint8_t *sheet, size_t size, siz
 
 /*
  * The values of a sheet by number, from 0; marnipode_judge tells how many there are. Past the last one, and of a refused sheet, all
- * numbers are 0, which no value of an accepted sheet is, but for a follower set. The gap is that from a row to a row, 0 where the
- * second may not follow the first.
+ * numbers are 0, which no value of an accepted sheet is, but for a follower set and a jitter. The gap is that from a row to a row, 0
+ * where the second may not follow the first.
  */
 marnipode_mode_answer marnipode_mode(const uint8_t *sheet, size_t size, size_t number);
 marnipode_row_answer marnipode_row(const uint8_t *sheet, size_t size, size_t number);
@@ -255,13 +264,14 @@ marnipode_task_answer marnipode_task(const uint8_t *sheet, size_t size, size_t n
 
 /*
  * Writes the sheet of these values at the front of the output: label, modes, rows, fixed tasks, end. The bytes behind it stay as they
- * were. Reading it gives the same values again. Skipped fields are not written, nor is a fall-back that is its mode's boundary, since
- * the shorter field says the same; an accepted sheet that has neither, written from its values, is the same byte for byte.
+ * were. Reading it gives the same values again. Skipped fields are not written, nor is a fall-back that is its mode's boundary or a
+ * jitter that is 0, since the shorter field says the same; an accepted sheet that has none of these, written from its values, is the
+ * same byte for byte.
  *
  * Refused is what the judge would refuse, by the same number, but at place 0, since nothing is written: 5 for an empty or too long
  * label, and for more or fewer gaps than the follower sets have rows; 3 for no modes or no rows; 6 to 10 as of a sheet, also 7 for a
- * fall-back that is 0, above its boundary, below the boundary before it, or, of the last mode, not its boundary. Then 15 where the
- * output is shorter than the sheet.
+ * fall-back that is 0, above its boundary, below the boundary before it, or, of the last mode, not its boundary, and for a jitter at
+ * or above its task's deadline. Then 15 where the output is shorter than the sheet.
  */
 static inline marnipode_write_answer marnipode_write(const marnipode_values *values, uint8_t *output, size_t output_size);
 
@@ -276,7 +286,8 @@ marnipode_write_answer marnipode_write_columns(const uint8_t *label, size_t labe
                                                const uint64_t *followers, size_t follower_count, const uint16_t *gaps,
                                                size_t gap_count, const uint16_t *task_lengths, size_t task_length_count,
                                                const uint16_t *task_periods, size_t task_period_count,
-                                               const uint16_t *task_deadlines, size_t task_deadline_count, uint8_t *output,
+                                               const uint16_t *task_deadlines, size_t task_deadline_count,
+                                               const uint16_t *task_jitters, size_t task_jitter_count, uint8_t *output,
                                                size_t output_size);
 
 static inline marnipode_write_answer marnipode_write(const marnipode_values *values, uint8_t *output, size_t output_size)
@@ -285,7 +296,8 @@ static inline marnipode_write_answer marnipode_write(const marnipode_values *val
                                    values->modes, values->fallbacks, values->modes, values->speeds, values->rows,
                                    values->deadlines, values->rows, values->followers, values->rows, values->gaps,
                                    values->gap_count, values->task_lengths, values->tasks, values->task_periods, values->tasks,
-                                   values->task_deadlines, values->tasks, output, output_size);
+                                   values->task_deadlines, values->tasks, values->task_jitters, values->tasks, output,
+                                   output_size);
 }
 
 /*

@@ -138,6 +138,38 @@ static void make_fallback(bad_file *file, unsigned number)
     file->must = refusal_of_fallback(number);
 }
 
+/* A label, a mode, a row and the header of a fixed task, whose content is still to come. */
+static const uint8_t up_to_task[] = {LABEL_TAG, 0, 1, 'A', MODE_TAG, 0, 4, 3, 232, 0, 5, ROW_TAG, 0, 8, 3, 232, 0, 5, 0, 0, 0, 0,
+                                     TASK_TAG,  0, 0};
+
+enum { TASK_PLACE = sizeof up_to_task - 3, MOST_TASK = MOST_FILE - sizeof up_to_task };
+
+/* A file up to a task of so many bytes: length 2, period 10, deadline 1,000, and 0 from there on. */
+static void make_task_of(bad_file *file, unsigned size)
+{
+    static const uint8_t numbers[] = {0, 2, 0, 10, 3, 232};
+    memcpy(file->bytes, up_to_task, sizeof up_to_task);
+    memcpy(file->bytes + sizeof up_to_task, numbers, sizeof numbers);
+    file->bytes[TASK_PLACE + 2] = (uint8_t)size;
+    file->size = sizeof up_to_task + size;
+}
+
+/* Every length of a fixed task, up to the longest that fits: where it is 6 or 8 the file stops behind it. */
+static void make_task(bad_file *file, unsigned number)
+{
+    make_task_of(file, number);
+    file->must = number == 6 || number == 8 ? (refusal){1, file->size} : (refusal){5, TASK_PLACE};
+}
+
+/* Every jitter of that task. With one below the deadline the file stops behind the task. */
+static void make_jitter(bad_file *file, unsigned number)
+{
+    make_task_of(file, 8);
+    file->bytes[file->size - 2] = (uint8_t)(number / 256);
+    file->bytes[file->size - 1] = (uint8_t)(number % 256);
+    file->must = number < 1000 ? (refusal){1, file->size} : (refusal){7, TASK_PLACE};
+}
+
 int main(void)
 {
     score all = compare_files("every file of two bytes", 65536, make_two_bytes);
@@ -145,6 +177,8 @@ int main(void)
     all = sum_of(all, compare_files("files of one skipped field, each tag and each length up to 255", 32768, make_skipped_field));
     all = sum_of(all, compare_files("files of a label and a mode of each length up to 251", 252, make_mode));
     all = sum_of(all, compare_files("files that stop before the end field, each fall-back of the last mode", 65536, make_fallback));
+    all = sum_of(all, compare_files("files up to a fixed task of each length up to 233", MOST_TASK + 1, make_task));
+    all = sum_of(all, compare_files("files that stop before the end field, each jitter of a fixed task", 65536, make_jitter));
     print_score("bad files in all", 16, all);
     return all.wrong == 0 ? EXIT_SUCCESS : EXIT_FAILURE;
 }

@@ -8,7 +8,7 @@ void clear_columns(columns *given)
     given->label_size = 0;
     given->boundaries.count = given->lengths.count = given->fallbacks.count = 0;
     given->speeds.count = given->deadlines.count = given->follower_count = given->gaps.count = 0;
-    given->task_lengths.count = given->task_periods.count = given->task_deadlines.count = 0;
+    given->task_lengths.count = given->task_periods.count = given->task_deadlines.count = given->task_jitters.count = 0;
 }
 
 bool add_value(column *to, uint64_t value)
@@ -68,6 +68,7 @@ void read_columns(columns *told, const uint8_t *sheet, size_t size)
         add_value(&told->task_lengths, task.length);
         add_value(&told->task_periods, task.period);
         add_value(&told->task_deadlines, task.deadline);
+        add_value(&told->task_jitters, task.jitter);
     }
 }
 
@@ -85,14 +86,16 @@ bool are_same(const columns *first, const columns *second)
            memcmp(first->followers, second->followers, first->follower_count * sizeof first->followers[0]) == 0 &&
            is_same_column(&first->gaps, &second->gaps) && is_same_column(&first->task_lengths, &second->task_lengths) &&
            is_same_column(&first->task_periods, &second->task_periods) &&
-           is_same_column(&first->task_deadlines, &second->task_deadlines);
+           is_same_column(&first->task_deadlines, &second->task_deadlines) &&
+           is_same_column(&first->task_jitters, &second->task_jitters);
 }
 
 bool are_even(const columns *given)
 {
     return given->boundaries.count == given->lengths.count && given->boundaries.count == given->fallbacks.count &&
            given->speeds.count == given->deadlines.count && given->speeds.count == given->follower_count &&
-           given->task_lengths.count == given->task_periods.count && given->task_lengths.count == given->task_deadlines.count;
+           given->task_lengths.count == given->task_periods.count && given->task_lengths.count == given->task_deadlines.count &&
+           given->task_lengths.count == given->task_jitters.count;
 }
 
 marnipode_write_answer write_columns(const columns *given, uint8_t *output, size_t size)
@@ -102,7 +105,8 @@ marnipode_write_answer write_columns(const columns *given, uint8_t *output, size
         given->lengths.count, given->fallbacks.values, given->fallbacks.count, given->speeds.values, given->speeds.count,
         given->deadlines.values, given->deadlines.count, given->followers, given->follower_count, given->gaps.values,
         given->gaps.count, given->task_lengths.values, given->task_lengths.count, given->task_periods.values,
-        given->task_periods.count, given->task_deadlines.values, given->task_deadlines.count, output, size);
+        given->task_periods.count, given->task_deadlines.values, given->task_deadlines.count, given->task_jitters.values,
+        given->task_jitters.count, output, size);
 }
 
 marnipode_write_answer write_struct(const columns *given, uint8_t *output, size_t size)
@@ -123,6 +127,7 @@ marnipode_write_answer write_struct(const columns *given, uint8_t *output, size_
         .task_lengths = given->task_lengths.values,
         .task_periods = given->task_periods.values,
         .task_deadlines = given->task_deadlines.values,
+        .task_jitters = given->task_jitters.values,
         .tasks = given->task_lengths.count,
     };
     return marnipode_write(&values, output, size);

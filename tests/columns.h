@@ -32,6 +32,7 @@ typedef struct {
     column task_lengths;
     column task_periods;
     column task_deadlines;
+    column task_jitters;
 } columns;
 
 /* No values at all. */

@@ -160,10 +160,14 @@ static void compare_explanations(uint32_t *cells)
 static uint8_t output[MARNIPODE_MOST_WRITTEN];
 static uint64_t sets[MARNIPODE_MOST_ROWS];
 
-/* The largest sheet: every row is followed by every row, all times are 1, and every mode but the last has a band. */
+/*
+ * The largest sheet: every row is followed by every row, every mode but the last has a band, and every task a jitter. All times are 1, but
+ * for the deadlines of the tasks, which are 2.
+ */
 static marnipode_values largest_values(void)
 {
     static uint16_t ones[MARNIPODE_MOST_ROWS * MARNIPODE_MOST_ROWS], speeds[MARNIPODE_MOST_ROWS], fallbacks[MARNIPODE_MOST_MODES];
+    static uint16_t twos[MARNIPODE_MOST_TASKS];
     static uint8_t label[MARNIPODE_LONGEST_LABEL];
     const size_t gaps = sizeof ones / sizeof ones[0];
     const uint16_t *boundaries = speeds + MARNIPODE_MOST_ROWS - MARNIPODE_MOST_MODES;
@@ -176,8 +180,10 @@ static marnipode_values largest_values(void)
     }
     for (size_t i = 0; i < MARNIPODE_MOST_MODES; i++)
         fallbacks[i] = (uint16_t)(i + 1 < MARNIPODE_MOST_MODES ? boundaries[i] - 1 : boundaries[i]);
+    for (size_t i = 0; i < MARNIPODE_MOST_TASKS; i++)
+        twos[i] = 2;
     return (marnipode_values){label, sizeof label, boundaries, ones, fallbacks, MARNIPODE_MOST_MODES, speeds, ones, sets,
-                              MARNIPODE_MOST_ROWS, ones, gaps, ones, ones, ones, MARNIPODE_MOST_TASKS};
+                              MARNIPODE_MOST_ROWS, ones, gaps, ones, ones, twos, ones, MARNIPODE_MOST_TASKS};
 }
 
 /* A mode whose fall-back is its boundary is 2 bytes shorter. */
@@ -191,6 +197,22 @@ static void compare_fallbacks(void)
     marnipode_write_answer written = marnipode_write(&values, output, sizeof output);
     compare("one column for both", written.number == 0 && written.size == MARNIPODE_MOST_WRITTEN - 2 * (MARNIPODE_MOST_MODES - 1));
     compare("no band, read", marnipode_mode(output, written.size, 0).fallback == values.boundaries[0]);
+}
+
+/* A task whose jitter is 0 is 2 bytes shorter. */
+static void compare_jitters(void)
+{
+    static const uint16_t zeros[MARNIPODE_MOST_TASKS];
+    marnipode_values values = largest_values();
+    marnipode_write(&values, output, sizeof output);
+    compare("a jitter, read", marnipode_task(output, sizeof output, 0).jitter == 1);
+    values.task_jitters = zeros;
+    marnipode_write_answer written = marnipode_write(&values, output, sizeof output);
+    compare("a column of zeros", written.number == 0 && written.size == MARNIPODE_MOST_WRITTEN - 2 * MARNIPODE_MOST_TASKS);
+    marnipode_task_answer task = marnipode_task(output, written.size, 0);
+    compare("no jitter, read", task.deadline == 2 && task.jitter == 0);
+    values.task_jitters = values.task_deadlines;
+    compare("a jitter that is the deadline", marnipode_write(&values, output, sizeof output).number == MARNIPODE_REFUSED_OUT_OF_RANGE);
 }
 
 static void compare_writing(void)
@@ -221,7 +243,9 @@ static void compare_values(void)
                                         marnipode_mode(sheet, size, 1).fallback == 0);
     compare("a row past the last", marnipode_row(sheet, size, 1).speed == 0 && marnipode_row(sheet, size, SIZE_MAX).length == 0);
     compare("a gap past the last", marnipode_gap(sheet, size, 0, 1) == 0 && marnipode_gap(sheet, size, SIZE_MAX, SIZE_MAX) == 0);
-    compare("a task past the last", marnipode_task(sheet, size, 1).length == 0 && marnipode_task(sheet, size, SIZE_MAX).period == 0);
+    compare("a task without a jitter", marnipode_task(sheet, size, 0).jitter == 0);
+    compare("a task past the last", marnipode_task(sheet, size, 1).length == 0 && marnipode_task(sheet, size, SIZE_MAX).period == 0 &&
+                                        marnipode_task(sheet, size, 1).jitter == 0);
 }
 
 /* No bytes at all are a sheet that is cut off. */
@@ -253,6 +277,7 @@ int main(void)
     compare_explanations(cells);
     compare_writing();
     compare_fallbacks();
+    compare_jitters();
     compare_values();
     compare_no_sheet();
     print_score("header in all", 13, counted);

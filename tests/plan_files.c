@@ -53,13 +53,16 @@ static uint8_t *put_row(uint8_t *at, const plan *made, unsigned row)
     return put_gaps(at, gaps);
 }
 
-static uint8_t *put_tasks(uint8_t *at, unsigned tasks)
+/* A jitter stands in the field only where it is not 0, likewise. */
+static uint8_t *put_tasks(uint8_t *at, const plan *made)
 {
-    for (unsigned i = 0; i < tasks; i++) {
-        at = put_header(at, TASK_TAG, 6);
+    for (unsigned i = 0; i < made->tasks; i++) {
+        at = put_header(at, TASK_TAG, made->jitters[i] == 0 ? 6 : 8);
         at = put_word(at, fixed_tasks[i].length);
         at = put_word(at, fixed_tasks[i].period);
         at = put_word(at, fixed_tasks[i].deadline);
+        if (made->jitters[i] != 0)
+            at = put_word(at, made->jitters[i]);
     }
     return at;
 }
@@ -71,7 +74,7 @@ size_t write_plan(const plan *made, uint8_t *bytes)
     at = put_modes(at, made);
     for (unsigned i = 0; i < made->rows; i++)
         at = put_row(at, made, i);
-    at = put_tasks(at, made->tasks);
+    at = put_tasks(at, made);
     at = put_header(at, END_TAG, 0);
     return (size_t)(at - bytes);
 }

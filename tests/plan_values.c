@@ -31,5 +31,6 @@ void fill_columns(const plan *made, columns *given)
         add_value(&given->task_lengths, fixed_tasks[i].length);
         add_value(&given->task_periods, fixed_tasks[i].period);
         add_value(&given->task_deadlines, fixed_tasks[i].deadline);
+        add_value(&given->task_jitters, made->jitters[i]);
     }
 }

@@ -20,10 +20,11 @@ static const scale times_around_eight = {7, 3, {0, 1, 8}, 33, {1, 29, 83}};
 
 /* A boundary speed belongs to the slower mode. */
 static const family families[] = {
-    {"at-boundaries", "at boundary speeds, each in a mode of its own", {1000, 2000, 3000}, {0, 1, 2}, false, &small_times},
-    {"above-boundaries", "one rpm above the boundary of the mode before their own", {1, 1001, 2001}, {0, 1, 2}, false, &small_times},
-    {"shared-mode", "below a boundary, at it, in the same mode, and one rpm above it", {999, 1000, 1001}, {0, 0, 1}, true, &small_times},
-    {"around-eight", "at boundary speeds, each in a mode of its own", {1000, 2000, 3000}, {0, 1, 2}, false, &times_around_eight},
+    {"at-boundaries", "at boundary speeds, each in a mode of its own", {1000, 2000, 3000}, {0, 1, 2}, false, false, &small_times},
+    {"above-boundaries", "one rpm above the boundary of the mode before their own", {1, 1001, 2001}, {0, 1, 2}, false, true, &small_times},
+    {"shared-mode", "below a boundary, at it, in the same mode, and one rpm above it", {999, 1000, 1001}, {0, 0, 1}, true, false,
+     &small_times},
+    {"around-eight", "at boundary speeds, each in a mode of its own", {1000, 2000, 3000}, {0, 1, 2}, false, false, &times_around_eight},
 };
 
 enum { FAMILIES = sizeof families / sizeof families[0] };
@@ -39,6 +40,14 @@ static const unsigned turns[][MOST_ROWS] = {
 };
 
 enum { TURNS = sizeof turns / sizeof turns[0] };
+
+/*
+ * So do the jitters of the fixed tasks in a family that has them, and their turns are as many: none, 1 for each task, one less than its
+ * deadline for each, with which their first jobs fall due at 1, and mixed ones. The second task's is also longer than its period.
+ */
+static const unsigned jitter_turns[TURNS][MOST_TASKS] = {
+    {0, 0, 0, 0}, {1, 1, 1, 1}, {3, 4, 1, 1}, {0, 1, 0, 1}, {2, 3, 1, 0}, {1, 4, 0, 0}, {3, 0, 0, 1},
+};
 
 const family *find_family(const char *name)
 {
@@ -127,10 +136,17 @@ static void take_fallbacks(plan *made, const family *chosen, unsigned number)
     memcpy(made->fallbacks, turns[turn], sizeof made->fallbacks);
 }
 
+static void take_jitters(plan *made, const family *chosen, unsigned number)
+{
+    unsigned turn = chosen->has_jitters ? number % TURNS : 0;
+    memcpy(made->jitters, jitter_turns[turn], sizeof made->jitters);
+}
+
 plan make_plan(const family *chosen, unsigned rows, unsigned number)
 {
     plan made = {.mode_lengths = {1, 1, 1}, .rows = rows, .horizon = chosen->times->horizon};
     take_fallbacks(&made, chosen, number);
+    take_jitters(&made, chosen, number);
     for (unsigned i = 0; i < rows; i++) {
         made.speeds[i] = chosen->speeds[i];
         made.modes[i] = chosen->modes[i];
@@ -163,6 +179,14 @@ static void print_fallbacks(const family *chosen)
     printf(chosen->has_bands ? ", in turn\n" : " their boundaries\n");
 }
 
+static void print_jitters(const family *chosen)
+{
+    printf("their jitters:");
+    for (unsigned i = 0; chosen->has_jitters && i < TURNS; i++)
+        printf(" (%u, %u, %u, %u)", jitter_turns[i][0], jitter_turns[i][1], jitter_turns[i][2], jitter_turns[i][3]);
+    printf(chosen->has_jitters ? ", in turn\n" : " 0\n");
+}
+
 static void print_times(const scale *ticks)
 {
     unsigned shortest = ticks->shortest;
@@ -183,4 +207,5 @@ void print_bounds(const family *chosen)
     for (unsigned i = 0; i < MOST_TASKS; i++)
         printf(" (%u, %u, %u)", fixed_tasks[i].length, fixed_tasks[i].period, fixed_tasks[i].deadline);
     printf("\n");
+    print_jitters(chosen);
 }

@@ -10,13 +10,13 @@
 
 enum { MOST_ROWS = 3, MOST_TASKS = 4 };
 
-/* Room for a file: three rows, four fixed tasks and two bands take 119 bytes. */
+/* Room for a file: three rows, two bands and four fixed tasks with a jitter take 127 bytes. */
 enum { MOST_PLAN_FILE = 128 };
 
 /*
  * Three modes, up to 1,000, 2,000 and 3,000 rpm, with the lengths of their jobs and their fall-backs. Each row has a speed, and the mode
  * that it is in by that; a deadline; and a gap to each row, 0 where that row may not follow. Of the fixed tasks there are none or the
- * first ones. Up to the horizon it is asked about every interval and every amount.
+ * first ones, each with a jitter. Up to the horizon it is asked about every interval and every amount.
  */
 typedef struct {
     unsigned mode_lengths[MOST_ROWS];
@@ -27,10 +27,11 @@ typedef struct {
     unsigned deadlines[MOST_ROWS];
     unsigned gaps[MOST_ROWS][MOST_ROWS];
     unsigned tasks;
+    unsigned jitters[MOST_TASKS];
     unsigned horizon;
 } plan;
 
-/* A fixed-period task. */
+/* A fixed-period task. Its jitter is the plan's. */
 typedef struct {
     unsigned length;
     unsigned period;
@@ -57,7 +58,7 @@ typedef struct {
 
 /*
  * A family of plans by where its rows stand among the boundaries: their speeds, and the modes that they are in by those; whether its
- * modes have bands; and its times.
+ * modes have bands, and its fixed tasks jitters; and its times.
  */
 typedef struct {
     const char *name;
@@ -65,6 +66,7 @@ typedef struct {
     unsigned speeds[MOST_ROWS];
     unsigned modes[MOST_ROWS];
     bool has_bands;
+    bool has_jitters;
     const scale *times;
 } family;
 

@@ -43,11 +43,17 @@ static size_t lent_cells(unsigned horizon)
     return MOST_ROWS * (horizon + 1) + MORE_CELLS;
 }
 
-/* What a fixed task needs up to an interval, as docs/FORMAT.md has it. */
-static int64_t demand_of(const fixed_task *task, int64_t interval)
+/*
+ * What a fixed task of a plan needs up to an interval: its jobs are counted one by one, each a period after the one before, as long as
+ * they fall due in it when the first is released as late as it can be.
+ */
+static int64_t demand_of(const plan *made, unsigned task, int64_t interval)
 {
-    int64_t later = interval - task->deadline;
-    return later < 0 ? 0 : task->length * (1 + later / task->period);
+    const fixed_task *fixed = &fixed_tasks[task];
+    int64_t needed = 0;
+    for (int64_t due = fixed->deadline; due <= interval + made->jitters[task]; due += fixed->period)
+        needed += fixed->length;
+    return needed;
 }
 
 /* What the fixed tasks of a plan need. */
@@ -55,7 +61,7 @@ static int64_t fixed_demand(const plan *made, int64_t interval)
 {
     int64_t needed = 0;
     for (unsigned i = 0; i < made->tasks; i++)
-        needed += demand_of(&fixed_tasks[i], interval);
+        needed += demand_of(made, i, interval);
     return needed;
 }
 
@@ -105,7 +111,7 @@ static outcome fails_at(const search *now, int64_t interval)
     must.why.cause = cause_at(now, interval);
     must.why.engine = now->found.demand[interval];
     for (unsigned i = 0; i < now->made.tasks; i++)
-        must.why.demands[i] = (uint64_t)demand_of(&fixed_tasks[i], interval);
+        must.why.demands[i] = (uint64_t)demand_of(&now->made, i, interval);
     must.why.excess = (uint64_t)-margin_at(now, (uint64_t)interval);
     return must;
 }

@@ -73,23 +73,32 @@ void read_gap(trial *now, const line *said)
     hold_numbers(now, (uint64_t[]){marnipode_gap(now->sheet.start, now->sheet.size, from, to)}, &must, 1);
 }
 
-/* `task NUMBER is LENGTH PERIOD DEADLINE` */
+/* `LENGTH PERIOD DEADLINE`, or `LENGTH PERIOD DEADLINE JITTER`: without a jitter it is 0. */
+static bool task_said(const line *said, size_t from, uint64_t *must)
+{
+    if (said->count == from + 4)
+        return numbers_said(said, from, must, 4);
+    must[3] = 0;
+    return numbers_said(said, from, must, 3);
+}
+
+/* `task NUMBER is LENGTH PERIOD DEADLINE`, `task NUMBER is LENGTH PERIOD DEADLINE JITTER` */
 void read_task(trial *now, const line *said)
 {
-    uint64_t number, must[3];
-    if (!number_at(said, 1, &number) || !says(said, 2, "is") || !numbers_said(said, 3, must, 3)) {
+    uint64_t number, must[4];
+    if (!number_at(said, 1, &number) || !says(said, 2, "is") || !task_said(said, 3, must)) {
         misread(now);
         return;
     }
     compare(now);
     lend_sheet(now);
     marnipode_task_answer got = marnipode_task(now->sheet.start, now->sheet.size, number);
-    hold_numbers(now, (uint64_t[]){got.length, got.period, got.deadline}, must, 3);
+    hold_numbers(now, (uint64_t[]){got.length, got.period, got.deadline, got.jitter}, must, 4);
 }
 
 void hold_no_values(trial *now)
 {
-    static const uint64_t none[11];
+    static const uint64_t none[12];
     lend_sheet(now);
     const uint8_t *sheet = now->sheet.start;
     size_t size = now->sheet.size;
@@ -98,6 +107,6 @@ void hold_no_values(trial *now)
     marnipode_task_answer task = marnipode_task(sheet, size, 0);
     const uint64_t got[] = {mode.boundary, mode.length, mode.fallback, row.speed,   row.deadline,
                             row.followers, row.length,  task.length,   task.period, task.deadline,
-                            marnipode_gap(sheet, size, 0, 0)};
+                            task.jitter,   marnipode_gap(sheet, size, 0, 0)};
     hold_numbers(now, got, none, sizeof got / sizeof got[0]);
 }

@@ -60,6 +60,16 @@ static bool add_mode(const line *said)
            add_each(said, fallback, (column *const[]){&given.fallbacks}, 1);
 }
 
+/* `LENGTH PERIOD DEADLINE`, or `LENGTH PERIOD DEADLINE JITTER`: without a jitter it is 0. */
+static bool add_task(const line *said)
+{
+    if (!add_each(said, 2, (column *const[]){&given.task_lengths, &given.task_periods, &given.task_deadlines}, 3))
+        return false;
+    if (said->count == 5)
+        return add_value(&given.task_jitters, 0);
+    return said->count == 6 && add_each(said, 5, (column *const[]){&given.task_jitters}, 1);
+}
+
 static bool add_said(const line *said)
 {
     if (says(said, 1, "label"))
@@ -68,8 +78,7 @@ static bool add_said(const line *said)
         return add_mode(said);
     if (says(said, 1, "row"))
         return add_row(said);
-    return says(said, 1, "task") && said->count == 5 &&
-           add_each(said, 2, (column *const[]){&given.task_lengths, &given.task_periods, &given.task_deadlines}, 3);
+    return says(said, 1, "task") && add_task(said);
 }
 
 void read_with(trial *now, const line *said)
@@ -90,6 +99,7 @@ void read_without(trial *now, const line *said)
         {"deadline", &given.deadlines.count},       {"set", &given.follower_count},
         {"gap", &given.gaps.count},                 {"task-length", &given.task_lengths.count},
         {"task-period", &given.task_periods.count}, {"task-deadline", &given.task_deadlines.count},
+        {"task-jitter", &given.task_jitters.count},
     };
     for (size_t i = 0; i < sizeof named / sizeof named[0]; i++) {
         if (says(said, 1, named[i].name) && 0 < *named[i].count && said->count == 2) {

@@ -1,7 +1,7 @@
 /*
  * Changes one gap of a sheet and writes it back: edit FILE FROM TO GAP NEW takes the sheet in FILE, sets the gap from row FROM to row
  * TO, and writes the sheet to NEW. Only a gap that is there can be changed. Skipped fields are not written, nor a fall-back that is the
- * mode's boundary.
+ * mode's boundary, nor a jitter of 0.
  * It ends with 0 where NEW is written, 1 where the sheet or its new values were refused, 2 where it was called wrongly.
  */
 #include <errno.h>
@@ -20,6 +20,7 @@ typedef struct {
     uint64_t followers[MARNIPODE_MOST_ROWS];
     uint16_t gaps[MOST_GAPS];
     uint16_t task_lengths[MARNIPODE_MOST_TASKS], task_periods[MARNIPODE_MOST_TASKS], task_deadlines[MARNIPODE_MOST_TASKS];
+    uint16_t task_jitters[MARNIPODE_MOST_TASKS];
 } columns;
 
 static int wrong_call(const char *what, const char *why)
@@ -85,10 +86,11 @@ static marnipode_values values_of(const uint8_t *sheet, size_t size, columns *he
         held->task_lengths[i] = task.length;
         held->task_periods[i] = task.period;
         held->task_deadlines[i] = task.deadline;
+        held->task_jitters[i] = task.jitter;
     }
     return (marnipode_values){sheet + label.start, label.size, held->boundaries, held->lengths, held->fallbacks, judged.modes,
                               held->speeds, held->deadlines, held->followers, judged.rows, held->gaps, gaps,
-                              held->task_lengths, held->task_periods, held->task_deadlines, judged.tasks};
+                              held->task_lengths, held->task_periods, held->task_deadlines, held->task_jitters, judged.tasks};
 }
 
 static int save(const char *name, const uint8_t *bytes, size_t size)

@@ -38,8 +38,9 @@ pub fn values_number(
     task_lengths: &[u16],
     task_periods: &[u16],
     task_deadlines: &[u16],
+    task_jitters: &[u16],
 ) -> u8
-    ensures { λ r. ⌜ r ≡ firstBroken (valuesRules (valuesFrom (now (label .entry)) (now (boundaries .entry)) (now (lengths .entry)) (now (fallbacks .entry)) (now (speeds .entry)) (now (deadlines .entry)) (now (sets .entry)) (now (gaps .entry)) (now («task_lengths» .entry)) (now («task_periods» .entry)) (now («task_deadlines» .entry)))) ⌝ }
+    ensures { λ r. ⌜ r ≡ firstBroken (valuesRules (valuesFrom (now (label .entry)) (now (boundaries .entry)) (now (lengths .entry)) (now (fallbacks .entry)) (now (speeds .entry)) (now (deadlines .entry)) (now (sets .entry)) (now (gaps .entry)) (now («task_lengths» .entry)) (now («task_periods» .entry)) (now («task_deadlines» .entry)) (now («task_jitters» .entry)))) ⌝ }
 {
     let tally = Sheet::empty().tally;
     let number = label_number(label, tally);
@@ -54,7 +55,13 @@ pub fn values_number(
     if rows.number != 0 {
         return rows.number;
     }
-    let tasks = tasks_number(task_lengths, task_periods, task_deadlines, rows.tally);
+    let tasks = tasks_number(
+        task_lengths,
+        task_periods,
+        task_deadlines,
+        task_jitters,
+        rows.tally,
+    );
     if tasks.number != 0 {
         return tasks.number;
     }

@@ -1,4 +1,4 @@
-// The rules of fixed tasks that stand in three columns.
+// The rules of fixed tasks that stand in four columns.
 use crate::Counted;
 use crate::cut;
 use crate::least;
@@ -20,18 +20,21 @@ pub(crate) fn tasks_number(
     lengths: &[u16],
     periods: &[u16],
     deadlines: &[u16],
+    jitters: &[u16],
     tally: Tally,
 ) -> Counted
-    ensures { λ r. ⌜ Counts tally (taskEntries (now (lengths .entry)) (now (periods .entry)) (now (deadlines .entry))) r ⌝ }
+    ensures { λ r. ⌜ Counts tally (taskEntries (now (lengths .entry)) (now (periods .entry)) (now (deadlines .entry)) (now (jitters .entry))) r ⌝ }
 {
     let mut so_far = tally;
     let mut at: usize = 0;
-    let whole = least(lengths.len(), least(periods.len(), deadlines.len()));
+    let shorter = least(deadlines.len(), jitters.len());
+    let whole = least(lengths.len(), least(periods.len(), shorter));
     while at < whole {
         let task = Task {
             length: Ticks(lengths[at]),
             period: Ticks(periods[at]),
             deadline: Ticks(deadlines[at]),
+            jitter: Ticks(jitters[at]),
         };
         let number = one_task_number(so_far, task);
         if number != 0 {
@@ -43,7 +46,8 @@ pub(crate) fn tasks_number(
         so_far = count_task(so_far);
         at += 1;
     }
-    if left_over(lengths.len(), periods.len(), deadlines.len(), at) {
+    let unlike = left_over(lengths.len(), periods.len(), deadlines.len(), at);
+    if unlike || at < jitters.len() {
         return cut(4, so_far);
     }
     Counted {
@@ -52,11 +56,11 @@ pub(crate) fn tasks_number(
     }
 }
 
-// The rules of one fixed task, whose field has three numbers of two bytes.
+// The rules of one fixed task, whose field takes the shorter form.
 fn one_task_number(tally: Tally, task: Task) -> u8
     ensures { λ r. ⌜ r ≡ firstBroken (entryRules tally (TaskEntry task)) ⌝ }
 {
-    let number = common_number(4, tally.last, 6, false, tally.tasks);
+    let number = common_number(4, tally.last, task.short_size(), false, tally.tasks);
     if number != 0 {
         return number;
     }

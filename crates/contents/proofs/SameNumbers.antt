@@ -98,3 +98,7 @@ module _ (bytes : List ℕ) where
     pub task-deadline-column : getD (valuesOf bytes .taskDeadlines) number 0 ≡ taskNumbered bytes number .deadline .0
     unfolding valuesOf valuesIn taskNumbered
     task-deadline-column = List·getD-map (λ task. task .deadline .0) (tasksIn sheet) number noTask
+
+    pub task-jitter-column : getD (valuesOf bytes .taskJitters) number 0 ≡ taskNumbered bytes number .jitter .0
+    unfolding valuesOf valuesIn taskNumbered
+    task-jitter-column = List·getD-map (λ task. task .jitter .0) (tasksIn sheet) number noTask

@@ -21,8 +21,9 @@ use Rattle.fields.specs.declared.values.Task.{Task}
 use Rattle.sheet.specs.declared.Answer.the-variants.{Accepted}
 use Rattle.written.specs.Reading.{valuesIn, valuesOf}
 use Rattle.written.specs.ShortForm.{shortForm}
-use Rattle.written.specs.Values.{Values}
+use Rattle.written.specs.Values.{Values, ModeEntry, TaskEntry, modeEntries, taskEntries}
 use Rattle.written.proofs.AcceptedAgain.{accepted-again}
+use Rattle.written.proofs.Columns.{modes-entries, tasks-entries}
 use Rattle.written.proofs.JudgedWritten.{written-read}
 use Rattle.written.proofs.WrittenBack.{written-short}
 use Rattle.contents.specs.Contents.{rowNumbered, gapNumbered}
@@ -33,22 +34,21 @@ use Rattle.contents.proofs.ShortBytes.{short-bytes}
 use Rattle.contents.proofs.SameNumbers.{graph-deadline, graph-gap, speed-column, deadline-column, set-column}
 use Rattle.contents.proofs.Told.{row-told}
 
--- values that three numbers tell are told in a list by three columns
-listed-told : {A : Type 0} (f g h : A → ℕ) → ((a b : A) → f a ≡ f b → g a ≡ g b → h a ≡ h b → a ≡ b)
-    → (one other : List A) → map f one ≡ map f other → map g one ≡ map g other → map h one ≡ map h other → one ≡ other
-listed-told f g h told [] [] first second third = refl
-listed-told f g h told [] (b ∷ other) first second third = absurd (nil≢cons first)
-listed-told f g h told (a ∷ one) [] first second third = absurd (nil≢cons (sym first))
-listed-told f g h told (a ∷ one) (b ∷ other) first second third =
-    let same : a ≡ b = told a b (cc) (cc) (cc) in
-    let rest : one ≡ other = listed-told f g h told one other (cc) (cc) (cc) in
-    λ i. same i ∷ rest i
+-- a list is told by the list of what tells each of its members
+listed-told : {A B : Type 0} (tell : A → B) → ((a b : A) → tell a ≡ tell b → a ≡ b) → (one other : List A) → map tell one ≡ map tell other → one ≡ other
+listed-told tell told [] [] same = refl
+listed-told tell told [] (b ∷ other) same = absurd (nil≢cons same)
+listed-told tell told (a ∷ one) [] same = absurd (nil≢cons (sym same))
+listed-told tell told (a ∷ one) (b ∷ other) same =
+    let first : a ≡ b = told a b (cc) in
+    let rest : one ≡ other = listed-told tell told one other (cc) in
+    λ i. first i ∷ rest i
 
-mode-told : (a b : Mode) → a .boundary .0 ≡ b .boundary .0 → a .length .0 ≡ b .length .0 → a .fallback .0 ≡ b .fallback .0 → a ≡ b
-mode-told a b boundary long fallback i = record { boundary = record { 0 = boundary i }; length = record { 0 = long i }; fallback = record { 0 = fallback i } }
+mode-told : (a b : Mode) → ModeEntry a ≡ ModeEntry b → a ≡ b
+mode-told a b same = cc
 
-task-told : (a b : Task) → a .length .0 ≡ b .length .0 → a .period .0 ≡ b .period .0 → a .deadline .0 ≡ b .deadline .0 → a ≡ b
-task-told a b long period deadline i = record { length = record { 0 = long i }; period = record { 0 = period i }; deadline = record { 0 = deadline i } }
+task-told : (a b : Task) → TaskEntry a ≡ TaskEntry b → a ≡ b
+task-told a b same = cc
 
 -- an accepted sheet has as many rows in its column of speeds as it counts
 rows-counted : (bytes : List ℕ) → Bytes bytes → judged bytes .answer ≡ Accepted → length (valuesOf bytes .speeds) ≡ judged bytes .sheet .tally .rows
@@ -73,15 +73,20 @@ module _ (one other : List ℕ) (fit : Bytes one) (fits : Bytes other) (accepted
   same-modes : modesIn (judged one .sheet) ≡ modesIn (judged other .sheet)
   unfolding valuesOf valuesIn
   same-modes =
-      listed-told (λ mode. mode .boundary .0) (λ mode. mode .length .0) (λ mode. mode .fallback .0) mode-told _ _ (ap (λ (values : Values). values .boundaries) same) (ap (λ (values : Values). values .lengths) same) (ap (λ (values : Values). values .fallbacks) same)
+      listed-told ModeEntry mode-told (modesIn (judged one .sheet)) (modesIn (judged other .sheet))
+      (sym (modes-entries (modesIn (judged one .sheet)))
+      ∙ ap (λ (values : Values). modeEntries (values .boundaries) (values .lengths) (values .fallbacks)) same
+      ∙ modes-entries (modesIn (judged other .sheet)))
 
   -- and so the same fixed tasks
   pub same-tasks : tasksOf (judged one .sheet) ≡ tasksOf (judged other .sheet)
   unfolding valuesOf valuesIn tasksOf
   same-tasks =
       ap eachTask
-      (listed-told (λ task. task .length .0) (λ task. task .period .0) (λ task. task .deadline .0) task-told (tasksIn (judged one .sheet)) (tasksIn (judged other .sheet)) (ap (λ (values : Values). values .taskLengths) same)
-      (ap (λ (values : Values). values .taskPeriods) same) (ap (λ (values : Values). values .taskDeadlines) same))
+      (listed-told TaskEntry task-told (tasksIn (judged one .sheet)) (tasksIn (judged other .sheet))
+      (sym (tasks-entries (tasksIn (judged one .sheet)))
+      ∙ ap (λ (values : Values). taskEntries (values .taskLengths) (values .taskPeriods) (values .taskDeadlines) (values .taskJitters)) same
+      ∙ tasks-entries (tasksIn (judged other .sheet))))
 
   same-count : judged one .sheet .tally .rows ≡ judged other .sheet .tally .rows
   same-count = sym (rows-counted one fit accepted) ∙ ap (λ (values : Values). length (values .speeds)) same ∙ rows-counted other fits also

@@ -7,12 +7,14 @@ use lib.ListN.{length, take, drop, length-take}
 use lib.Seq.{getD-drop}
 use Rattle.fields.specs.Deciding.{pick}
 use Rattle.fields.specs.Fields.{isEnd}
-use Rattle.fields.specs.Limits.{modeSize}
+use Rattle.fields.specs.Limits.{modeSize, taskSize}
 use Rattle.fields.specs.Reading.{fieldAt}
 use Rattle.fields.specs.declared.reader.Step.{Step}
 use Rattle.fields.specs.declared.reader.Step.the-variants.{Field, Refusal}
+use Rattle.fields.specs.declared.table.Kind.{Kind}
+use Rattle.fields.specs.declared.table.Kind.the-variants.{RefusedTag, LabelField, ModeField, RowField, TaskField, EndField, SkippedField}
 use Rattle.sheet.specs.Proper.{Bytes}
-use Rattle.written.specs.ShortForm.{isSkipped, hasShorter, shortField, shortStep, shortFrom, shortForm}
+use Rattle.written.specs.ShortForm.{isSkipped, hasShorter, shorterField, shortField, shortStep, shortFrom, shortForm}
 use Rattle.written.specs.Written.{field}
 
 no-bytes : Bytes []
@@ -40,18 +42,30 @@ chosen-bytes true one other are also = are
 chosen-bytes false one other are also = also
 
 module _ (bytes : List ℕ) (are : Bytes bytes) where
+  -- a field with a part of the file as its content
+  part-bytes : (tag size start : ℕ) → tag < 256 → size < 65536 → Bytes (field tag (take size (drop start bytes)))
+  part-bytes tag size start known few =
+      let content = take size (drop start bytes) in
+      let most = length-take size (drop start bytes) in
+      one-more tag (length content / 256 ∷ length content % 256 ∷ content) known
+      (one-more (length content / 256) (length content % 256 ∷ content) (omega (arith, most))
+      (one-more (length content % 256) content (omega arith) (front-bytes size (drop start bytes) (behind-bytes start bytes are))))
+
+  shorter-bytes : (kind : Kind) (start : ℕ) → Bytes (shorterField bytes kind start)
+  shorter-bytes RefusedTag start = no-bytes
+  shorter-bytes LabelField start = no-bytes
+  shorter-bytes ModeField start = part-bytes 2 modeSize start (omega arith) (omega arith)
+  shorter-bytes RowField start = no-bytes
+  shorter-bytes TaskField start = part-bytes 4 taskSize start (omega arith) (omega arith)
+  shorter-bytes EndField start = no-bytes
+  shorter-bytes SkippedField start = no-bytes
+
   step-bytes : (at : ℕ) (go : ℕ → List ℕ) → ((next : ℕ) → Bytes (go next)) → (step : Step) → Bytes (shortStep bytes at go step)
   unfolding shortStep
   step-bytes at go goes (Refusal number place) = no-bytes
   step-bytes at go goes (Field kind start size next) =
-      let content = take modeSize (drop start bytes) in
-      let four = length-take modeSize (drop start bytes) in
-      let shorter : Bytes (field 2 content) =
-      one-more 2 (length content / 256 ∷ length content % 256 ∷ content) (omega arith)
-      (one-more (length content / 256) (length content % 256 ∷ content) (omega (arith, four))
-      (one-more (length content % 256) content (omega (arith, four)) (front-bytes modeSize (drop start bytes) (behind-bytes start bytes are)))) in
       both-bytes (shortField bytes at kind start size next) _
-      (chosen-bytes (isSkipped kind) [] _ no-bytes (chosen-bytes (hasShorter bytes kind start size) (field 2 content) _ shorter (front-bytes (next - at) (drop at bytes) (behind-bytes at bytes are))))
+      (chosen-bytes (isSkipped kind) [] _ no-bytes (chosen-bytes (hasShorter bytes kind start size) (shorterField bytes kind start) _ (shorter-bytes kind start) (front-bytes (next - at) (drop at bytes) (behind-bytes at bytes are))))
       (chosen-bytes (isEnd kind) [] (go next) no-bytes (goes next))
 
   from-bytes : (n at : ℕ) → Bytes (shortFrom bytes n at)

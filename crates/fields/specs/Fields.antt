@@ -5,7 +5,7 @@ use mathlib.Core.Bool.{Bool, true, false}
 use lib.ListN.{getD}
 use lib.Dec.{ltb, eqb}
 use Rattle.fields.specs.Deciding.{pick}
-use Rattle.fields.specs.Limits.{modeLimit, rowLimit, taskLimit, labelLimit, modeSize, fallbackSize, headSize, gapSize}
+use Rattle.fields.specs.Limits.{modeLimit, rowLimit, taskLimit, labelLimit, modeSize, fallbackSize, headSize, gapSize, taskSize, jitterSize}
 use Rattle.fields.specs.declared.table.Kind.{Kind}
 use Rattle.fields.specs.declared.table.Kind.the-variants.{RefusedTag, LabelField, ModeField, RowField, TaskField, EndField, SkippedField}
 use Rattle.fields.specs.declared.table.Line.{Line}
@@ -20,7 +20,7 @@ fields =
     record { shortest = 1; longest = labelLimit; most = 1; required = true; numbers = false }
     ∷ record { shortest = modeSize; longest = modeSize + fallbackSize; most = modeLimit; required = true; numbers = true }
     ∷ record { shortest = headSize; longest = headSize + gapSize * rowLimit; most = rowLimit; required = true; numbers = true }
-    ∷ record { shortest = 6; longest = 6; most = taskLimit; required = false; numbers = true }
+    ∷ record { shortest = taskSize; longest = taskSize + jitterSize; most = taskLimit; required = false; numbers = true }
     ∷ record { shortest = 0; longest = 0; most = 1; required = true; numbers = false }
     ∷ []
 

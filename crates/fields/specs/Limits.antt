@@ -26,6 +26,13 @@ modeSize = 4
 abbrev pub fallbackSize : ℕ
 fallbackSize = 2
 
+-- the bytes of a fixed task before its jitter, and of the jitter
+abbrev pub taskSize : ℕ
+taskSize = 6
+
+abbrev pub jitterSize : ℕ
+jitterSize = 2
+
 -- the bytes of a row before its gaps, and of each gap
 abbrev pub headSize : ℕ
 headSize = 8

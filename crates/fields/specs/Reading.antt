@@ -5,7 +5,7 @@ use lib.ListN.{length, getD}
 use lib.Dec.{ltb, eqb}
 use Rattle.fields.specs.Deciding.{_when_, pick, judgedBy}
 use Rattle.fields.specs.Fields.{kindOf, isRefused}
-use Rattle.fields.specs.Limits.{modeSize, headSize}
+use Rattle.fields.specs.Limits.{modeSize, headSize, taskSize}
 use Rattle.fields.specs.declared.reader.Step.{Step}
 use Rattle.fields.specs.declared.reader.Step.the-variants.{Field, Refusal}
 use Rattle.fields.specs.declared.units.Rpm.{Rpm}
@@ -49,13 +49,18 @@ rowAt bytes start =
       gaps = start + headSize;
     }
 
--- a fixed task: length, period, deadline
-abbrev pub taskAt : List ℕ → ℕ → Task
-taskAt bytes start =
+-- a fixed task's jitter: the last number of a field that has one more, else 0
+abbrev pub jitterAt : List ℕ → ℕ → ℕ → Ticks
+jitterAt bytes start size = pick (eqb size taskSize) (record { 0 = 0 }) (ticksAt bytes (start + taskSize))
+
+-- a fixed task, in a field of so many bytes: length, period, deadline, jitter
+abbrev pub taskAt : List ℕ → ℕ → ℕ → Task
+taskAt bytes start size =
     record {
       length = ticksAt bytes start;
       period = ticksAt bytes (start + 2);
       deadline = ticksAt bytes (start + 4);
+      jitter = jitterAt bytes start size;
     }
 
 -- the field at a place: rule 1 for a header that is cut off, then rule 2, then rule 1 for content that is cut off

@@ -50,8 +50,8 @@ const FIELDS: [Line; KINDS] = [
         numbers: true,
     },
     Line {
-        shortest: 6,
-        longest: 6,
+        shortest: Sheet::TASK,
+        longest: Sheet::TASK + Sheet::JITTER,
         most: Sheet::TASKS,
         required: false,
         numbers: true,

@@ -46,6 +46,13 @@ impl Ticks {
         self.0 == 0
     }
 
+    // Whether this time is at least the other. A jitter that is its deadline is at least that, so it is refused.
+    pub fn at_least(self, other: Ticks) -> bool
+        ensures { λ r. ⌜ r ≡ leb (other .0) (self .0) ⌝ }
+    {
+        other.0 <= self.0
+    }
+
     // Whether this time is shorter than the other.
     pub fn shorter(self, other: Ticks) -> bool
         ensures { λ r. ⌜ r ≡ ltb (self .0) (other .0) ⌝ }

@@ -2,7 +2,7 @@
 use crate::units::Rpm;
 use crate::units::Ticks;
 ghost use mathlib.Core.Path.{_≡_};
-ghost use Rattle.fields.specs.Values.{emptySheet, shortSize};
+ghost use Rattle.fields.specs.Values.{emptySheet, shortSize, shortTaskSize};
 
 // A part of the file: where it starts and how many bytes it has.
 pub struct Part {
@@ -59,11 +59,12 @@ impl Row {
     };
 }
 
-// A fixed-period task.
+// A fixed-period task, and the jitter: up to so long after its clock each job is released.
 pub struct Task {
     pub length: Ticks,
     pub period: Ticks,
     pub deadline: Ticks,
+    pub jitter: Ticks,
 }
 
 impl Task {
@@ -71,7 +72,19 @@ impl Task {
         length: Ticks(0),
         period: Ticks(0),
         deadline: Ticks(0),
+        jitter: Ticks(0),
     };
+
+    // How many bytes its shorter form has: a jitter only where it is not 0.
+    pub fn short_size(self) -> usize
+        ensures { λ r. ⌜ r ≡ shortTaskSize self ⌝ }
+    {
+        let jitter = self.jitter;
+        if jitter.is_zero() {
+            return Sheet::TASK;
+        }
+        Sheet::TASK + Sheet::JITTER
+    }
 }
 
 // What the rules know of the fields before: the last known tag, how many of each kind, the last boundary with its fall-back, and the last speed.
@@ -124,6 +137,10 @@ impl Sheet {
     pub const MODE: usize = 4;
 
     pub const FALLBACK: usize = 2;
+    // The bytes of a fixed task before its jitter, and in its jitter.
+    pub const TASK: usize = 6;
+
+    pub const JITTER: usize = 2;
     // The bytes of a row before its gaps, and in each gap.
     pub const HEAD: usize = 8;
 

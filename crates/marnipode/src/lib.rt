@@ -131,9 +131,10 @@ pub extern "C" fn marnipode_write_columns(
     task_lengths: &[u16],
     task_periods: &[u16],
     task_deadlines: &[u16],
+    task_jitters: &[u16],
     output: &mut [u8],
 ) -> WriteForC
-    ensures { λ r. ⌜ WriteExport (valuesFrom (now (label .entry)) (now (boundaries .entry)) (now (lengths .entry)) (now (fallbacks .entry)) (now (speeds .entry)) (now (deadlines .entry)) (now (sets .entry)) (now (gaps .entry)) (now («task_lengths» .entry)) (now («task_periods» .entry)) (now («task_deadlines» .entry))) (now (output .entry)) r (now (output .exit)) ⌝ }
+    ensures { λ r. ⌜ WriteExport (valuesFrom (now (label .entry)) (now (boundaries .entry)) (now (lengths .entry)) (now (fallbacks .entry)) (now (speeds .entry)) (now (deadlines .entry)) (now (sets .entry)) (now (gaps .entry)) (now («task_lengths» .entry)) (now («task_periods» .entry)) (now («task_deadlines» .entry)) (now («task_jitters» .entry))) (now (output .entry)) r (now (output .exit)) ⌝ }
 {
     write_numbers(writer::write(
         label,
@@ -147,6 +148,7 @@ pub extern "C" fn marnipode_write_columns(
         task_lengths,
         task_periods,
         task_deadlines,
+        task_jitters,
         output,
     ))
 }

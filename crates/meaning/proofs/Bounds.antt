@@ -12,7 +12,7 @@ use Rattle.meaning.specs.Demand.{longestTime, noTime, IsDemand, IsWitnes
 use Rattle.meaning.specs.Cells.{IsBestFrom, IsLeastFrom}
 use Rattle.meaning.specs.Fixed.{Task, fixedSum}
 use Rattle.meaning.proofs.Sequences.{head-in, rows-at-most-end}
-use Rattle.meaning.proofs.FixedTasks.{fixed-sum-at-most}
+use Rattle.meaning.proofs.FixedTasks.{Bounded, fixed-sum-at-most}
 
 -- every row of a sequence is a row of the graph, told by its first row and the rest
 rest-rows-in : (g : Graph) (k : ℕ) (rest : List ℕ) → AllowedFrom g k rest → (i : ℕ) → i < length (k ∷ rest) → getD (k ∷ rest) i 0 < g .rows
@@ -87,9 +87,9 @@ module _ (g : Graph) (sound : Sound g) where
       pub demand-fits : (t d : ℕ) → t ≤ longestTime → IsDemand g t d → d < 2 ^ 32
       demand-fits t d ht demand = omega (arith, demand-at-most t d demand, mul-le-mul short ht)
 
--- fixed demand fits 48 bits, where neither the lengths nor the number of tasks is above `longestTime`
+-- fixed demand fits 48 bits, where neither the lengths nor the number of tasks is above `longestTime`, and no jitter above its deadline
 pub fixed-fits : (most : ℕ) (tasks : List Task) (default : Task) (t : ℕ) → most ≤ longestTime → length tasks ≤ longestTime → t ≤ longestTime
-    → ((i : ℕ) → i < length tasks → (getD tasks i default) .length ≤ most) → fixedSum tasks t < 2 ^ 48
+    → ((i : ℕ) → i < length tasks → Bounded most (getD tasks i default)) → fixedSum tasks t < 2 ^ 48
 fixed-fits most tasks default t short few ht none-longer =
     let each : most * suc t ≤ longestTime * suc longestTime = mul-le-mul {m₁ = suc t} {m₂ = suc longestTime} short (omega arith) in
     omega (arith, fixed-sum-at-most most tasks default t none-longer, mul-le-mul few each)

@@ -93,6 +93,6 @@ unfolding stepAt bestWithin best demandOf restWithin witnessOf
 lower-is-witness = witness-of twins twins-sound 5
 
 -- an interval that is filled to its last tick is met
-pub full-is-met : Meets oneWay (record { length = 1; period = 10; deadline = 5 } ∷ []) 9
+pub full-is-met : Meets oneWay (record { length = 1; period = 10; deadline = 5; jitter = 0 } ∷ []) 9
 unfolding stepAt bestWithin best demandOf fixedOf fixedSum
-full-is-met = meets oneWay (record { length = 1; period = 10; deadline = 5 } ∷ []) 9 8 (demand-of oneWay one-way-sound 9) (omega arith)
+full-is-met = meets oneWay (record { length = 1; period = 10; deadline = 5; jitter = 0 } ∷ []) 9 8 (demand-of oneWay one-way-sound 9) (omega arith)

@@ -1,18 +1,24 @@
 -- The demand of the fixed-period tasks.
 use mathlib.Core.Bool.{cond}
 use mathlib.Core.List.{List, [], _∷_}
-use Prim.Native.Nat.{ℕ, _+_, _*_, _-_, _/_}
-use lib.Dec.{ltb}
+use Prim.Native.Nat.{ℕ, zero, suc, _+_, _*_, _-_, _/_}
+use lib.Dec.{leb, ltb}
 
--- a task whose jobs come a period apart, each with the same length and deadline
+-- a task whose clock strikes a period apart, with one job at each stroke: it has the length, is due the deadline after the stroke, and is released up to the jitter after it
 pub record Task : Type 0 where
   pub length : ℕ
   pub period : ℕ
   pub deadline : ℕ
+  pub jitter : ℕ
 
--- fixed demand of one task at t: nothing before its first deadline, then one length at that deadline and one more with each period
+-- fixed demand of one task at t: nothing while t and the jitter are below the deadline, then one length, and one more with each period; it is most for an interval that starts as a job is released as late as it can be
 unfoldable pub fixedOf : Task → ℕ → ℕ
-fixedOf task t = cond (ltb t (task .deadline)) 0 (task .length * (1 + (t - task .deadline) / task .period))
+fixedOf task t = cond (ltb (t + task .jitter) (task .deadline)) 0 (task .length * (1 + (t + task .jitter - task .deadline) / task .period))
+
+-- how many of the jobs 0 to n - 1 fall due by t: job k does where k periods and the deadline are at most t and the jitter; that fixed demand is their number times the length is proved (`fixed-counts`)
+unfoldable pub jobsDue : Task → ℕ → ℕ → ℕ
+jobsDue task t zero = 0
+jobsDue task t (suc k) = jobsDue task t k + cond (leb (k * task .period + task .deadline) (t + task .jitter)) 1 0
 
 -- fixed demand of all the tasks at t
 unfoldable pub fixedSum : List Task → ℕ → ℕ

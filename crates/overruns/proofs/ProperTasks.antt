@@ -1,7 +1,7 @@
 -- The fixed tasks that are counted: they are all there with every time in range, and their demand is known task by task and before the first interval.
 use mathlib.Core.Path.{_≡_, refl, _∙_, sym, ap}
 use mathlib.Core.List.{List, [], _∷_}
-use Prim.Native.Nat.{ℕ, zero, suc, _+_, _^_, _≤_, _<_}
+use Prim.Native.Nat.{ℕ, zero, suc, _+_, _-_, _^_, _≤_, _<_}
 use native.Mathlib.Numerals.{add-one}
 use native.Mathlib.Omega.{arith}
 use lib.ListN.{length, getD, take}
@@ -11,7 +11,6 @@ use Rattle.meaning.specs.Fixed as fixed
 use Rattle.meaning.specs.Fixed.{fixedOf, fixedSum}
 use Rattle.meaning.proofs.Bounds.{fixed-fits}
 use Rattle.meaning.proofs.FixedTasks.{fixed-before, fixed-more}
-use Rattle.fields.specs.Limits.{taskLimit}
 use Rattle.fields.specs.Values.{noTask}
 use Rattle.fields.specs.declared.values.Task.{Task}
 use Rattle.fields.specs.declared.values.Sheet.{Sheet}
@@ -37,11 +36,11 @@ each-at (task ∷ tasks) (suc i) default h = each-at tasks i default (omega arit
 pub sheet-tasks : (bytes : List ℕ) (sheet : Sheet) → Proper bytes sheet → ProperTasks (sheet .tasks) (sheet .tally .tasks)
 sheet-tasks bytes sheet proper = record { most = proper .tasks-most; each = proper .each-task }
 
--- the three times of a task are in range
+-- what fixed demand needs of a task: its length and period are in range, and its jitter is below its deadline
 record ProperTimes (task : fixed.Task) : Type 0 where
   length : (1 ≤ task .length) × (task .length ≤ longestTime)
   period : (1 ≤ task .period) × (task .period ≤ longestTime)
-  deadline : (1 ≤ task .deadline) × (task .deadline ≤ longestTime)
+  jitter : task .jitter < task .deadline
 
 module _ (tasks : List Task) (count : ℕ) (proper : ProperTasks tasks count) where
   counted : List fixed.Task
@@ -65,14 +64,14 @@ module _ (tasks : List Task) (count : ℕ) (proper : ProperTasks tasks count) wh
   tasks-proper i h =
       let l : i < count = omega (arith, tasks-count) in
       let task = proper .each i l in
-      rw (task-of i (timesOf noTask) l) (record { length = task .length; period = task .period; deadline = task .deadline })
+      rw (task-of i (timesOf noTask) l) (record { length = task .length; period = task .period; jitter = task .jitter })
 
   -- so their demand fits 48 bits
   pub tasks-fit : (t : ℕ) → t ≤ longestTime → fixedSum (countedTasks tasks count) t < 2 ^ 48
   unfolding counted
   tasks-fit t h =
       fixed-fits longestTime (countedTasks tasks count) (timesOf noTask) t (omega arith) (omega (arith, tasks-count, proper .most)) h
-      (λ i l. tasks-proper i l .length .1)
+      (λ i l. (tasks-proper i l .length .1, omega (arith, tasks-proper i l .jitter)))
 
   -- fixed demand task by task
   pub sum-more : (i t : ℕ) → i < count
@@ -92,26 +91,25 @@ module _ (tasks : List Task) (count : ℕ) (proper : ProperTasks tasks count) wh
   unfolding fixedSum
   none-yet zero h = refl
   none-yet (suc i) h =
-      omega (arith, none-yet i (omega arith), fixed-more counted i (timesOf noTask) 0 h, fixed-before (taskAt counted i) 0 (tasks-proper i h .deadline .0))
+      omega (arith, none-yet i (omega arith), fixed-more counted i (timesOf noTask) 0 h, fixed-before (taskAt counted i) 0 (omega (arith, tasks-proper i h .jitter)))
 
   -- at 0 the next jobs are the first ones
-  pub running-start : (times : Times) → AreTimes tasks times → Running (countedTasks tasks count) (times .lengths) (times .periods) (times .dues) 0 0
+  pub running-start : (times : Times) → AreTimes tasks count times → Running (countedTasks tasks count) (times .lengths) (times .periods) (times .dues) 0 0
   unfolding counted
   running-start times are = record {
     positive = λ i h. tasks-proper i h .period .0;
-    lengths-are = λ i h. are .lengths i (few i h) ∙ sym (ap (λ (task : fixed.Task). task .length) (same i h));
-    periods-are = λ i h. are .periods i (few i h) ∙ sym (ap (λ (task : fixed.Task). task .period) (same i h));
+    lengths-are = λ i h. are .lengths i (within i h) ∙ sym (ap (λ (task : fixed.Task). task .length) (same i h));
+    periods-are = λ i h. are .periods i (within i h) ∙ sym (ap (λ (task : fixed.Task). task .period) (same i h));
     next = λ i h.
-        let due : getD (times .dues) i 0 ≡ taskAt counted i .deadline = are .dues i (few i h) ∙ sym (ap (λ (task : fixed.Task). task .deadline) (same i h)) in
-        rw due (due-first (taskAt counted i) (tasks-proper i h .period .0) (tasks-proper i h .deadline .0));
+        let due : getD (times .dues) i 0 ≡ taskAt counted i .deadline - taskAt counted i .jitter =
+        are .dues i (within i h) ∙ sym (ap (λ (task : fixed.Task). task .deadline - task .jitter) (same i h)) in
+        let below = tasks-proper i h .jitter in
+        due-first (taskAt counted i) 0 (getD (times .dues) i 0) (omega (arith, due, below)) (omega (arith, due, below));
     sum-is = sym (rw (take-length counted) at (none-yet (length counted) (omega arith)));
   }
     where
       within : (i : ℕ) → i < length (countedTasks tasks count) → i < count
       within i h = omega (arith, tasks-count)
-
-      few : (i : ℕ) → i < length (countedTasks tasks count) → i < taskLimit
-      few i h = omega (arith, within i h, proper .most)
 
       same : (i : ℕ) → i < length (countedTasks tasks count) → taskAt (countedTasks tasks count) i ≡ timesOf (getD tasks i noTask)
       same i h = task-of i (timesOf noTask) (within i h)

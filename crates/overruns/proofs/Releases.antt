@@ -21,12 +21,12 @@ use Rattle.overruns.specs.Releases.{workDue, dueAfter, Advanced}
 abbrev pub taskAt : List Task → ℕ → Task
 taskAt tasks i = getD tasks i (timesOf noTask)
 
--- the first job of a task that falls due after t does so at `due`, after `jobs` others
+-- the first job of a task that falls due after t does so at `due`, after `jobs` others; the jitter brings them all nearer
 pub record NextDue (task : Task) (t due : ℕ) : Type 0 where
   pub jobs : ℕ
-  pub is : due ≡ task .deadline + task .period * jobs
+  pub is : due + task .jitter ≡ task .deadline + task .period * jobs
   pub after : t < due
-  pub first : due ≤ max (task .deadline) (t + task .period)
+  pub first : due + task .jitter ≤ max (task .deadline) (t + task .jitter + task .period)
 
 -- at t: the arrays hold each task's length and period, and when its next job falls due, and the sum is fixed demand
 pub record Running (tasks : List Task) (lengths periods dues : List ℕ) (t sum : ℕ) : Type 0 where
@@ -38,6 +38,10 @@ pub record Running (tasks : List Task) (lengths periods dues : List ℕ) (t sum 
 
 -- ---- one task
 
+-- before its first job falls due that is the next
+pub due-first : (task : Task) (t due : ℕ) → due + task .jitter ≡ task .deadline → t < due → NextDue task t due
+due-first task t due e h = record { jobs = 0; is = omega (arith, e); after = h; first = omega (arith, e) }
+
 module _ (task : Task) (positive : 1 ≤ task .period) where
   -- fixed demand at t is one length for each job that fell due by then
   pub fixed-by-jobs : (t due : ℕ) (next : NextDue task t due) → fixedOf task t ≡ task .length * next .jobs
@@ -45,19 +49,19 @@ module _ (task : Task) (positive : 1 ≤ task .period) where
       ⊎-elim
       (λ l. omega (arith, fixed-before task t l, ap (λ (j : ℕ). task .length * j) (before l (next .jobs) refl)))
       (λ l. fixed-from task t l ∙ ap (λ (j : ℕ). task .length * j) (after l (next .jobs) refl))
-      (lt-or t (task .deadline))
+      (lt-or (t + task .jitter) (task .deadline))
     where
-      before : t < task .deadline → (jobs : ℕ) → next .jobs ≡ jobs → jobs ≡ 0
+      before : t + task .jitter < task .deadline → (jobs : ℕ) → next .jobs ≡ jobs → jobs ≡ 0
       before l zero e = refl
       before l (suc j) e = absurd (omega (arith, next .is, next .first, ap (λ (x : ℕ). task .period * x) e))
 
-      after : task .deadline ≤ t → (jobs : ℕ) → next .jobs ≡ jobs → 1 + (t - task .deadline) / task .period ≡ jobs
+      after : task .deadline ≤ t + task .jitter → (jobs : ℕ) → next .jobs ≡ jobs → 1 + (t + task .jitter - task .deadline) / task .period ≡ jobs
       after l zero e = absurd (omega (arith, next .is, next .after, ap (λ (x : ℕ). task .period * x) e))
       after l (suc j) e =
           let product : task .period * next .jobs ≡ task .period * suc j = ap (λ (x : ℕ). task .period * x) e in
           omega (
             arith,
-            div-eq-of-lt-le {k = j} (task .period) {m = t - task .deadline}
+            div-eq-of-lt-le {k = j} (task .period) {m = t + task .jitter - task .deadline}
                 (omega (arith, next .is, next .first, product))
                 (omega (arith, next .is, next .after, product)),
           )
@@ -84,10 +88,6 @@ module _ (task : Task) (positive : 1 ≤ task .period) where
           first = omega (arith, next .first);
         } in
         (same, fixed-by-jobs (t + 1) due same ∙ sym (fixed-by-jobs t due next))
-
-  -- before its deadline the first job is the next
-  pub due-first : 1 ≤ task .deadline → NextDue task 0 (task .deadline)
-  due-first some = record { jobs = 0; is = omega arith; after = some; first = omega arith }
 
 -- ---- all tasks
 

@@ -2,7 +2,7 @@
 use mathlib.Core.Path.{_≡_}
 use mathlib.Core.Bool.{cond}
 use mathlib.Core.List.{List}
-use Prim.Native.Nat.{ℕ, zero, suc, _+_, _≤_, _<_}
+use Prim.Native.Nat.{ℕ, zero, suc, _+_, _-_, _≤_, _<_}
 use lib.Dec.{eqb}
 use lib.ListN.{length, getD, take}
 use Rattle.meaning.specs.Fixed as fixed
@@ -13,7 +13,7 @@ use Rattle.fields.specs.Values.{noTask}
 use Rattle.fields.specs.declared.values.Task.{Task}
 use Rattle.overruns.specs.declared.tasks.Times.{Times}
 
--- the first tasks of an array, as many as are counted, each as three numbers
+-- the first tasks of an array, as many as are counted, each as four numbers
 abbrev pub countedTasks : List Task → ℕ → List fixed.Task
 countedTasks tasks count = eachTask (take count tasks)
 
@@ -37,9 +37,13 @@ pub record Advanced (lengths periods old new : List ℕ) (count t work : ℕ) : 
   pub next : (i : ℕ) → i < count → getD new i 0 ≡ dueAfter periods old t i
   pub same-length : length new ≡ length old
 
--- the times of the tasks, and when their first jobs fall due
-pub record AreTimes (tasks : List Task) (times : Times) : Type 0 where
-  pub lengths : (i : ℕ) → i < taskLimit → getD (times .lengths) i 0 ≡ getD tasks i noTask .length .0
-  pub periods : (i : ℕ) → i < taskLimit → getD (times .periods) i 0 ≡ getD tasks i noTask .period .0
-  pub dues : (i : ℕ) → i < taskLimit → getD (times .dues) i 0 ≡ getD tasks i noTask .deadline .0
+-- when a task's first job falls due in an interval that starts with its release, as late as it can be
+abbrev pub firstDue : Task → ℕ
+firstDue task = task .deadline .0 - task .jitter .0
+
+-- the times of the tasks that are counted, and when their first jobs fall due
+pub record AreTimes (tasks : List Task) (count : ℕ) (times : Times) : Type 0 where
+  pub lengths : (i : ℕ) → i < count → getD (times .lengths) i 0 ≡ getD tasks i noTask .length .0
+  pub periods : (i : ℕ) → i < count → getD (times .periods) i 0 ≡ getD tasks i noTask .period .0
+  pub dues : (i : ℕ) → i < count → getD (times .dues) i 0 ≡ firstDue (getD tasks i noTask)
   pub room : length (times .dues) ≡ taskLimit

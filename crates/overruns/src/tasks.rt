@@ -1,13 +1,15 @@
 // Fixed demand: at one interval, and as it grows from interval to interval.
+use fields::units::Ticks;
 use fields::values::Sheet;
 use fields::values::Task;
 ghost use mathlib.Core.Path.{_≡_};
-ghost use Prim.Native.Nat.{_+_, _*_, _≤_};
+ghost use Prim.Native.Nat.{_+_, _-_, _*_, _/_, _≤_};
 ghost use lib.ListN.{length};
 ghost use Rattle.meaning.specs.Demand.{longestTime};
 ghost use Rattle.meaning.specs.Fixed.{fixedOf, fixedSum};
 ghost use Rattle.fields.specs.Limits.{taskLimit};
 ghost use Rattle.sheet.specs.Meaning.{timesOf};
+ghost use Rattle.sheet.specs.Proper.{ProperTask};
 ghost use Rattle.overruns.specs.Releases.{countedTasks, ProperTasks, AreTimes, Advanced};
 
 // The times of the fixed tasks as numbers, since only arrays of numbers are lent: each task's length and period, and when its next job falls due.
@@ -35,31 +37,49 @@ pub fn fixed_sum(tasks: [Task; Sheet::TASKS], count: usize, t: usize) -> u64
 
 // Fixed demand of one task at t.
 pub fn fixed_of(task: Task, t: usize) -> u64
-    requires { ⌜ 1 ≤ task .period .0 ⌝ }
+    requires { ⌜ ProperTask task ⌝ }
     requires { ⌜ t ≤ longestTime ⌝ }
     ensures { λ r. ⌜ (r ≡ fixedOf (timesOf task) t) × (r ≤ longestTime * (longestTime + 1)) ⌝ }
 {
-    let first = task.deadline.0 as usize;
+    let first = first_due(task.deadline, task.jitter);
     if t < first {
         return 0;
     }
-    let jobs = 1 + (t - first) / (task.period.0 as usize);
+    let jobs = 1 + whole_periods(t - first, task.period);
     task.length.0 as u64 * jobs as u64
 }
 
+// When a task's first job falls due: an interval that starts as it is released, as late as it can be, has its deadline the jitter sooner.
+pub fn first_due(deadline: Ticks, jitter: Ticks) -> usize
+    requires { ⌜ jitter .0 ≤ deadline .0 ⌝ }
+    ensures { λ r. ⌜ r ≡ deadline .0 - jitter .0 ⌝ }
+{
+    deadline.0 as usize - jitter.0 as usize
+}
+
+// How many whole periods a time has.
+fn whole_periods(time: usize, period: Ticks) -> usize
+    requires { ⌜ 1 ≤ period .0 ⌝ }
+    requires { ⌜ time ≤ longestTime ⌝ }
+    ensures { λ r. ⌜ r ≡ time / period .0 ⌝ }
+{
+    time / (period.0 as usize)
+}
+
 // The times of the tasks before the first interval.
-pub fn times_of(tasks: [Task; Sheet::TASKS]) -> Times
-    ensures { λ r. ⌜ AreTimes tasks r ⌝ }
+pub fn times_of(tasks: [Task; Sheet::TASKS], count: usize) -> Times
+    requires { ⌜ ProperTasks tasks count ⌝ }
+    ensures { λ r. ⌜ AreTimes tasks count r ⌝ }
 {
     let mut lengths = [0u16; Sheet::TASKS];
     let mut periods = [0u16; Sheet::TASKS];
     let mut dues = [0usize; Sheet::TASKS];
     let mut i: usize = 0;
-    while i < Sheet::TASKS {
+    while i < count {
         let task = tasks[i];
         lengths[i] = task.length.0;
         periods[i] = task.period.0;
-        dues[i] = task.deadline.0 as usize;
+        dues[i] = first_due(task.deadline, task.jitter);
         i += 1;
     }
     Times {

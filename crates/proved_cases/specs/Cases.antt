@@ -12,7 +12,7 @@ use Rattle.beginning.specs.Beginning.{graph, tasks}
 use Rattle.desk.specs.Calls.{ShortestCall}
 use Rattle.desk.specs.Agreement.{WithRoom}
 use Rattle.desk.specs.declared.ShortestAnswer.{ShortestAnswer}
-use Rattle.proved_cases.specs.Sheets.{sheetA, sheetAWithTask, sheetB, sheetHangsOn}
+use Rattle.proved_cases.specs.Sheets.{sheetA, sheetAWithTask, sheetB, sheetHangsOn, sheetLateRelease}
 
 -- a value of a sheet: its demand at an interval, with or without the witness, its shortest interval for an amount, its margin; or the number by which `shortest` refuses an amount
 pub data Case : Type 0 where
@@ -60,4 +60,7 @@ cases =
     ∷ witness sheetHangsOn 14 10 (1 ∷ 2 ∷ [])
     ∷ shortest sheetHangsOn 8 14
     ∷ margin sheetHangsOn 14 (negsuc 0)
+    ∷ margin sheetLateRelease 7 (pos 7)
+    ∷ margin sheetLateRelease 8 (pos 4)
+    ∷ margin sheetLateRelease 10 (negsuc 0)
     ∷ []

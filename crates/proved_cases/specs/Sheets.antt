@@ -1,4 +1,4 @@
--- The bytes of the sheets A, B and `Hangs on`, field by field; sheets/a.sheet, sheets/b.sheet and sheets/hangs-on.sheet are the same.
+-- The bytes of the sheets A, B, `Hangs on` and `Late release`, field by field; sheets/a.sheet, sheets/b.sheet, sheets/hangs-on.sheet and sheets/late-release.sheet are the same.
 use Prim.Native.Nat.{ℕ}
 use mathlib.Core.List.{List, [], _∷_, _++_}
 
@@ -44,4 +44,16 @@ sheetHangsOn =
     ++ (3 ∷ 0 ∷ 12 ∷ 3 ∷ 232 ∷ 0 ∷ 8 ∷ 0 ∷ 0 ∷ 0 ∷ 5 ∷ 0 ∷ 9 ∷ 0 ∷ 8 ∷ [])
     ++ (3 ∷ 0 ∷ 10 ∷ 4 ∷ 176 ∷ 0 ∷ 6 ∷ 0 ∷ 0 ∷ 0 ∷ 2 ∷ 0 ∷ 8 ∷ [])
     ++ (4 ∷ 0 ∷ 6 ∷ 0 ∷ 5 ∷ 0 ∷ 20 ∷ 0 ∷ 12 ∷ [])
+    ++ end
+
+-- the label `Late release`; modes up to 1,000 rpm with length 6 and up to 2,000 rpm with length 5; row 0 at 1,000 rpm, deadline 15, gaps 16 to itself and 15 to row 1; row 1 at 2,000 rpm, deadline 9, gaps 12 to row 0 and 10 to itself; a fixed task of length 2, period 10, deadline 10, and one of length 4, period 20, deadline 12, jitter 4
+abbrev pub sheetLateRelease : List ℕ
+sheetLateRelease =
+    (1 ∷ 0 ∷ 12 ∷ 76 ∷ 97 ∷ 116 ∷ 101 ∷ 32 ∷ 114 ∷ 101 ∷ 108 ∷ 101 ∷ 97 ∷ 115 ∷ 101 ∷ [])
+    ++ (2 ∷ 0 ∷ 4 ∷ 3 ∷ 232 ∷ 0 ∷ 6 ∷ [])
+    ++ (2 ∷ 0 ∷ 4 ∷ 7 ∷ 208 ∷ 0 ∷ 5 ∷ [])
+    ++ (3 ∷ 0 ∷ 12 ∷ 3 ∷ 232 ∷ 0 ∷ 15 ∷ 0 ∷ 0 ∷ 0 ∷ 3 ∷ 0 ∷ 16 ∷ 0 ∷ 15 ∷ [])
+    ++ (3 ∷ 0 ∷ 12 ∷ 7 ∷ 208 ∷ 0 ∷ 9 ∷ 0 ∷ 0 ∷ 0 ∷ 3 ∷ 0 ∷ 12 ∷ 0 ∷ 10 ∷ [])
+    ++ (4 ∷ 0 ∷ 6 ∷ 0 ∷ 2 ∷ 0 ∷ 10 ∷ 0 ∷ 10 ∷ [])
+    ++ (4 ∷ 0 ∷ 8 ∷ 0 ∷ 4 ∷ 0 ∷ 20 ∷ 0 ∷ 12 ∷ 0 ∷ 4 ∷ [])
     ++ end

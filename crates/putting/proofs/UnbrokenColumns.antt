@@ -64,16 +64,19 @@ rows-long (speed ∷ speeds) (deadline ∷ deadlines) (followers ∷ sets) gaps 
     let behind = rows-long speeds deadlines sets (drop (followerCount followers) gaps) (unbroken-behind _ _ unbroken) in
     (omega arith, omega arith)
 
-pub tasks-long : (lengths periods deadlines : List ℕ) → Unbroken (taskEntries lengths periods deadlines) → (length lengths ≡ length periods) × (length lengths ≡ length deadlines)
+pub tasks-long : (lengths periods deadlines jitters : List ℕ) → Unbroken (taskEntries lengths periods deadlines jitters)
+    → (length lengths ≡ length periods) × (length lengths ≡ length deadlines) × (length lengths ≡ length jitters)
 unfolding taskEntries lineOf fields
-tasks-long [] [] [] unbroken = (refl, refl)
-tasks-long [] [] (deadline ∷ deadlines) unbroken = absurd (parted 4 (omega arith) unbroken)
-tasks-long [] (period ∷ periods) deadlines unbroken = absurd (parted 4 (omega arith) unbroken)
-tasks-long (x ∷ lengths) [] deadlines unbroken = absurd (parted 4 (omega arith) unbroken)
-tasks-long (x ∷ lengths) (period ∷ periods) [] unbroken = absurd (parted 4 (omega arith) unbroken)
-tasks-long (x ∷ lengths) (period ∷ periods) (deadline ∷ deadlines) unbroken =
-    let behind = tasks-long lengths periods deadlines (unbroken-behind _ _ unbroken) in
-    (omega arith, omega arith)
+tasks-long [] [] [] [] unbroken = (refl, refl, refl)
+tasks-long [] [] [] (jitter ∷ jitters) unbroken = absurd (parted 4 (omega arith) unbroken)
+tasks-long [] [] (deadline ∷ deadlines) jitters unbroken = absurd (parted 4 (omega arith) unbroken)
+tasks-long [] (period ∷ periods) deadlines jitters unbroken = absurd (parted 4 (omega arith) unbroken)
+tasks-long (x ∷ lengths) [] deadlines jitters unbroken = absurd (parted 4 (omega arith) unbroken)
+tasks-long (x ∷ lengths) (period ∷ periods) [] jitters unbroken = absurd (parted 4 (omega arith) unbroken)
+tasks-long (x ∷ lengths) (period ∷ periods) (deadline ∷ deadlines) [] unbroken = absurd (parted 4 (omega arith) unbroken)
+tasks-long (x ∷ lengths) (period ∷ periods) (deadline ∷ deadlines) (jitter ∷ jitters) unbroken =
+    let behind = tasks-long lengths periods deadlines jitters (unbroken-behind _ _ unbroken) in
+    (omega arith, omega arith, omega arith)
 
 -- the gaps of the row at a number are there
 pub gaps-there : (speeds deadlines sets gaps : List ℕ) (number from : ℕ) → from ≤ length gaps → number < length speeds → number < length deadlines → number < length sets

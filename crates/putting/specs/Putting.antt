@@ -23,15 +23,15 @@ abbrev pub Narrow : List ℕ → Type 0
 Narrow sets = (k : ℕ) → getD sets k 0 < 2 ^ rowLimit
 
 -- the fixed tasks and the end
-unfoldable pub fromTasks : List ℕ → List ℕ → List ℕ → List ℕ
-fromTasks lengths periods deadlines = fieldsOf (taskEntries lengths periods deadlines) ++ field 5 []
+unfoldable pub fromTasks : List ℕ → List ℕ → List ℕ → List ℕ → List ℕ
+fromTasks lengths periods deadlines jitters = fieldsOf (taskEntries lengths periods deadlines jitters) ++ field 5 []
 
 -- the rows and what follows them
-unfoldable pub fromRows : List ℕ → List ℕ → List ℕ → List ℕ → List ℕ → List ℕ → List ℕ → List ℕ
-fromRows speeds deadlines sets gaps taskLengths taskPeriods taskDeadlines =
-    fieldsOf (rowEntries speeds deadlines sets gaps) ++ fromTasks taskLengths taskPeriods taskDeadlines
+unfoldable pub fromRows : List ℕ → List ℕ → List ℕ → List ℕ → List ℕ → List ℕ → List ℕ → List ℕ → List ℕ
+fromRows speeds deadlines sets gaps taskLengths taskPeriods taskDeadlines taskJitters =
+    fieldsOf (rowEntries speeds deadlines sets gaps) ++ fromTasks taskLengths taskPeriods taskDeadlines taskJitters
 
 -- the modes and what follows them
-unfoldable pub fromModes : List ℕ → List ℕ → List ℕ → List ℕ → List ℕ → List ℕ → List ℕ → List ℕ → List ℕ → List ℕ → List ℕ
-fromModes boundaries lengths fallbacks speeds deadlines sets gaps taskLengths taskPeriods taskDeadlines =
-    fieldsOf (modeEntries boundaries lengths fallbacks) ++ fromRows speeds deadlines sets gaps taskLengths taskPeriods taskDeadlines
+unfoldable pub fromModes : List ℕ → List ℕ → List ℕ → List ℕ → List ℕ → List ℕ → List ℕ → List ℕ → List ℕ → List ℕ → List ℕ → List ℕ
+fromModes boundaries lengths fallbacks speeds deadlines sets gaps taskLengths taskPeriods taskDeadlines taskJitters =
+    fieldsOf (modeEntries boundaries lengths fallbacks) ++ fromRows speeds deadlines sets gaps taskLengths taskPeriods taskDeadlines taskJitters

@@ -118,11 +118,12 @@ pub(crate) fn put_tasks(
     lengths: &[u16],
     periods: &[u16],
     deadlines: &[u16],
+    jitters: &[u16],
 ) -> usize
-    requires { ⌜ length (fieldsOf (taskEntries (now lengths) (now periods) (now deadlines))) ≤ length (now out) ⌝ }
-    requires { ⌜ Unbroken (taskEntries (now lengths) (now periods) (now deadlines)) ⌝ }
-    ensures { λ r. ⌜ r ≡ length (fieldsOf (taskEntries (now (lengths .entry)) (now (periods .entry)) (now (deadlines .entry)))) ⌝ }
-    ensures { λ _. ⌜ Put (fieldsOf (taskEntries (now (lengths .entry)) (now (periods .entry)) (now (deadlines .entry)))) (now (out .entry)) (now (out .exit)) ⌝ }
+    requires { ⌜ length (fieldsOf (taskEntries (now lengths) (now periods) (now deadlines) (now jitters))) ≤ length (now out) ⌝ }
+    requires { ⌜ Unbroken (taskEntries (now lengths) (now periods) (now deadlines) (now jitters)) ⌝ }
+    ensures { λ r. ⌜ r ≡ length (fieldsOf (taskEntries (now (lengths .entry)) (now (periods .entry)) (now (deadlines .entry)) (now (jitters .entry)))) ⌝ }
+    ensures { λ _. ⌜ Put (fieldsOf (taskEntries (now (lengths .entry)) (now (periods .entry)) (now (deadlines .entry)) (now (jitters .entry)))) (now (out .entry)) (now (out .exit)) ⌝ }
 {
     let mut number: usize = 0;
     let mut at: usize = 0;
@@ -131,19 +132,21 @@ pub(crate) fn put_tasks(
             length: Ticks(lengths[number]),
             period: Ticks(periods[number]),
             deadline: Ticks(deadlines[number]),
+            jitter: Ticks(jitters[number]),
         };
         put_task(&mut out[at..], task);
-        at += 9;
+        at += 3 + task.short_size();
         number += 1;
     }
     at
 }
 
-// One fixed task's field.
+// One fixed task's field, in its shorter form.
 fn put_task(out: &mut [u8], task: Task)
-    requires { ⌜ 9 ≤ length (now out) ⌝ }
+    requires { ⌜ length (fieldOf (TaskEntry task)) ≤ length (now out) ⌝ }
     ensures { λ _. ⌜ Put (fieldOf (TaskEntry task)) (now (out .entry)) (now (out .exit)) ⌝ }
 {
-    let numbers = [task.length.0, task.period.0, task.deadline.0];
-    put_field(out, 4, &numbers);
+    let numbers = [task.length.0, task.period.0, task.deadline.0, task.jitter.0];
+    let count = task.short_size() / 2;
+    put_field(out, 4, &numbers[..count]);
 }

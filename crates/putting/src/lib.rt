@@ -31,11 +31,12 @@ pub fn put_sheet(
     task_lengths: &[u16],
     task_periods: &[u16],
     task_deadlines: &[u16],
+    task_jitters: &[u16],
 )
-    requires { ⌜ length (written (valuesFrom (now label) (now boundaries) (now lengths) (now fallbacks) (now speeds) (now deadlines) (now sets) (now gaps) (now «task_lengths») (now «task_periods») (now «task_deadlines»))) ≤ length (now out) ⌝ }
-    requires { ⌜ firstBroken (entriesRules noTally (entries (valuesFrom (now label) (now boundaries) (now lengths) (now fallbacks) (now speeds) (now deadlines) (now sets) (now gaps) (now «task_lengths») (now «task_periods») (now «task_deadlines»)))) ≡ 0 ⌝ }
+    requires { ⌜ length (written (valuesFrom (now label) (now boundaries) (now lengths) (now fallbacks) (now speeds) (now deadlines) (now sets) (now gaps) (now «task_lengths») (now «task_periods») (now «task_deadlines») (now «task_jitters»))) ≤ length (now out) ⌝ }
+    requires { ⌜ firstBroken (entriesRules noTally (entries (valuesFrom (now label) (now boundaries) (now lengths) (now fallbacks) (now speeds) (now deadlines) (now sets) (now gaps) (now «task_lengths») (now «task_periods») (now «task_deadlines») (now «task_jitters»)))) ≡ 0 ⌝ }
     requires { ⌜ Narrow (now sets) ⌝ }
-    ensures { λ _. ⌜ Put (written (valuesFrom (now (label .entry)) (now (boundaries .entry)) (now (lengths .entry)) (now (fallbacks .entry)) (now (speeds .entry)) (now (deadlines .entry)) (now (sets .entry)) (now (gaps .entry)) (now («task_lengths» .entry)) (now («task_periods» .entry)) (now («task_deadlines» .entry)))) (now (out .entry)) (now (out .exit)) ⌝ }
+    ensures { λ _. ⌜ Put (written (valuesFrom (now (label .entry)) (now (boundaries .entry)) (now (lengths .entry)) (now (fallbacks .entry)) (now (speeds .entry)) (now (deadlines .entry)) (now (sets .entry)) (now (gaps .entry)) (now («task_lengths» .entry)) (now («task_periods» .entry)) (now («task_deadlines» .entry)) (now («task_jitters» .entry)))) (now (out .entry)) (now (out .exit)) ⌝ }
 {
     put_label(out, label);
     let at = 3 + label.len();
@@ -51,6 +52,7 @@ pub fn put_sheet(
         task_lengths,
         task_periods,
         task_deadlines,
+        task_jitters,
     );
 }
 
@@ -67,13 +69,14 @@ fn put_from_modes(
     task_lengths: &[u16],
     task_periods: &[u16],
     task_deadlines: &[u16],
+    task_jitters: &[u16],
 )
-    requires { ⌜ length (fromModes (now boundaries) (now lengths) (now fallbacks) (now speeds) (now deadlines) (now sets) (now gaps) (now «task_lengths») (now «task_periods») (now «task_deadlines»)) ≤ length (now out) ⌝ }
+    requires { ⌜ length (fromModes (now boundaries) (now lengths) (now fallbacks) (now speeds) (now deadlines) (now sets) (now gaps) (now «task_lengths») (now «task_periods») (now «task_deadlines») (now «task_jitters»)) ≤ length (now out) ⌝ }
     requires { ⌜ Unbroken (modeEntries (now boundaries) (now lengths) (now fallbacks)) ⌝ }
     requires { ⌜ Unbroken (rowEntries (now speeds) (now deadlines) (now sets) (now gaps)) ⌝ }
-    requires { ⌜ Unbroken (taskEntries (now «task_lengths») (now «task_periods») (now «task_deadlines»)) ⌝ }
+    requires { ⌜ Unbroken (taskEntries (now «task_lengths») (now «task_periods») (now «task_deadlines») (now «task_jitters»)) ⌝ }
     requires { ⌜ Narrow (now sets) ⌝ }
-    ensures { λ _. ⌜ Put (fromModes (now (boundaries .entry)) (now (lengths .entry)) (now (fallbacks .entry)) (now (speeds .entry)) (now (deadlines .entry)) (now (sets .entry)) (now (gaps .entry)) (now («task_lengths» .entry)) (now («task_periods» .entry)) (now («task_deadlines» .entry))) (now (out .entry)) (now (out .exit)) ⌝ }
+    ensures { λ _. ⌜ Put (fromModes (now (boundaries .entry)) (now (lengths .entry)) (now (fallbacks .entry)) (now (speeds .entry)) (now (deadlines .entry)) (now (sets .entry)) (now (gaps .entry)) (now («task_lengths» .entry)) (now («task_periods» .entry)) (now («task_deadlines» .entry)) (now («task_jitters» .entry))) (now (out .entry)) (now (out .exit)) ⌝ }
 {
     let size = put_modes(out, boundaries, lengths, fallbacks);
     put_from_rows(
@@ -85,6 +88,7 @@ fn put_from_modes(
         task_lengths,
         task_periods,
         task_deadlines,
+        task_jitters,
     );
 }
 
@@ -98,24 +102,37 @@ fn put_from_rows(
     task_lengths: &[u16],
     task_periods: &[u16],
     task_deadlines: &[u16],
+    task_jitters: &[u16],
 )
-    requires { ⌜ length (fromRows (now speeds) (now deadlines) (now sets) (now gaps) (now «task_lengths») (now «task_periods») (now «task_deadlines»)) ≤ length (now out) ⌝ }
+    requires { ⌜ length (fromRows (now speeds) (now deadlines) (now sets) (now gaps) (now «task_lengths») (now «task_periods») (now «task_deadlines») (now «task_jitters»)) ≤ length (now out) ⌝ }
     requires { ⌜ Unbroken (rowEntries (now speeds) (now deadlines) (now sets) (now gaps)) ⌝ }
-    requires { ⌜ Unbroken (taskEntries (now «task_lengths») (now «task_periods») (now «task_deadlines»)) ⌝ }
+    requires { ⌜ Unbroken (taskEntries (now «task_lengths») (now «task_periods») (now «task_deadlines») (now «task_jitters»)) ⌝ }
     requires { ⌜ Narrow (now sets) ⌝ }
-    ensures { λ _. ⌜ Put (fromRows (now (speeds .entry)) (now (deadlines .entry)) (now (sets .entry)) (now (gaps .entry)) (now («task_lengths» .entry)) (now («task_periods» .entry)) (now («task_deadlines» .entry))) (now (out .entry)) (now (out .exit)) ⌝ }
+    ensures { λ _. ⌜ Put (fromRows (now (speeds .entry)) (now (deadlines .entry)) (now (sets .entry)) (now (gaps .entry)) (now («task_lengths» .entry)) (now («task_periods» .entry)) (now («task_deadlines» .entry)) (now («task_jitters» .entry))) (now (out .entry)) (now (out .exit)) ⌝ }
 {
     let size = put_rows(out, speeds, deadlines, sets, gaps);
-    put_from_tasks(&mut out[size..], task_lengths, task_periods, task_deadlines);
+    put_from_tasks(
+        &mut out[size..],
+        task_lengths,
+        task_periods,
+        task_deadlines,
+        task_jitters,
+    );
 }
 
 // The fixed tasks' fields, and behind them the end field.
-fn put_from_tasks(out: &mut [u8], lengths: &[u16], periods: &[u16], deadlines: &[u16])
-    requires { ⌜ length (fromTasks (now lengths) (now periods) (now deadlines)) ≤ length (now out) ⌝ }
-    requires { ⌜ Unbroken (taskEntries (now lengths) (now periods) (now deadlines)) ⌝ }
-    ensures { λ _. ⌜ Put (fromTasks (now (lengths .entry)) (now (periods .entry)) (now (deadlines .entry))) (now (out .entry)) (now (out .exit)) ⌝ }
+fn put_from_tasks(
+    out: &mut [u8],
+    lengths: &[u16],
+    periods: &[u16],
+    deadlines: &[u16],
+    jitters: &[u16],
+)
+    requires { ⌜ length (fromTasks (now lengths) (now periods) (now deadlines) (now jitters)) ≤ length (now out) ⌝ }
+    requires { ⌜ Unbroken (taskEntries (now lengths) (now periods) (now deadlines) (now jitters)) ⌝ }
+    ensures { λ _. ⌜ Put (fromTasks (now (lengths .entry)) (now (periods .entry)) (now (deadlines .entry)) (now (jitters .entry))) (now (out .entry)) (now (out .exit)) ⌝ }
 {
-    let size = put_tasks(out, lengths, periods, deadlines);
+    let size = put_tasks(out, lengths, periods, deadlines, jitters);
     put_head(&mut out[size..], 5, 0);
 }
 

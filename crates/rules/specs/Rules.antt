@@ -120,10 +120,11 @@ rowRules tally row zeroGap shortGap =
     ∷ 10 when shortGap
     ∷ []
 
--- the rules of a fixed task's numbers
+-- the rules of a fixed task's numbers; the last: a jitter at or above the deadline
 unfoldable pub taskRules : Task → List Rule
 taskRules task =
     7 when (noTicks (task .length))
     ∷ 7 when (noTicks (task .period))
     ∷ 7 when (noTicks (task .deadline))
+    ∷ 7 when (leb (task .deadline .0) (task .jitter .0))
     ∷ []

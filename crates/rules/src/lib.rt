@@ -86,13 +86,14 @@ pub fn row_number(tally: Tally, row: Row, zero_gap: bool, short_gap: bool) -> u8
     0
 }
 
-// The rules of a fixed task's numbers, which are all rule 7.
+// The rules of a fixed task's numbers, which are all rule 7: a zero, or a jitter at or above the deadline.
 pub fn task_number(task: Task) -> u8
     ensures { λ r. ⌜ r ≡ firstBroken (taskRules task) ⌝ }
 {
     let length = task.length;
     let period = task.period;
     let deadline = task.deadline;
+    let jitter = task.jitter;
     if length.is_zero() {
         return 7;
     }
@@ -100,6 +101,9 @@ pub fn task_number(task: Task) -> u8
         return 7;
     }
     if deadline.is_zero() {
+        return 7;
+    }
+    if jitter.at_least(deadline) {
         return 7;
     }
     0

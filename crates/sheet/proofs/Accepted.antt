@@ -158,7 +158,7 @@ module _ (bytes : List ℕ) (fit : Bytes bytes) where
               label-inside = g .label-inside;
               modes = g .modes;
               rows = g .rows;
-              tasks = held-more noTask _ _ _ free taskLimit ProperTask (task-proper bytes fit _ own) (g .tasks);
+              tasks = held-more noTask _ _ _ free taskLimit ProperTask (task-proper bytes fit start size own) (g .tasks);
               boundaries = g .boundaries;
               fallbacks = g .fallbacks;
               last-fallback = g .last-fallback;

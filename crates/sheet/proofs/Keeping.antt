@@ -48,8 +48,8 @@ pub record Keeps (bytes : List ℕ) (P : ℕ → Sheet → Type 0) (Q : Judged �
       → Kept (commonRules 3 (sheet .tally .last) size (unlikeSet size (rowAt bytes start .followers)) (sheet .tally .rows)) → Kept (rowGapRules bytes (sheet .tally) (rowAt bytes start))
       → P next (withRow sheet (rowAt bytes start))
   pub task : (sheet : Sheet) (at start size next : ℕ) → fieldAt bytes at ≡ Field TaskField start size next → P at sheet
-      → Kept (commonRules 4 (sheet .tally .last) size false (sheet .tally .tasks)) → Kept (taskRules (taskAt bytes start))
-      → P next (withTask sheet (taskAt bytes start))
+      → Kept (commonRules 4 (sheet .tally .last) size false (sheet .tally .tasks)) → Kept (taskRules (taskAt bytes start size))
+      → P next (withTask sheet (taskAt bytes start size))
   pub skipped : (sheet : Sheet) (at start size next : ℕ) → fieldAt bytes at ≡ Field SkippedField start size next → P at sheet → P next sheet
   pub accepted : (sheet : Sheet) (at start size next : ℕ) → fieldAt bytes at ≡ Field EndField start size next → P at sheet
       → outOfOrder (sheet .tally .last) 5 ≡ false → wrongLength 5 size ≡ false → unknownFollower (sheet .rows) (sheet .tally .rows) ≡ false → next ≡ length bytes

@@ -107,7 +107,7 @@ field-stands bytes places sheet RowField start size inside kept room rows =
     let more = stand-more bytes places sheet start (omega (arith, fits)) room (fits .2) rows in
     stand bytes (set places (sheet .tally .rows) start) (withRow sheet (rowAt bytes start)) (more .0) (more .1)
 field-stands bytes places sheet TaskField start size inside kept room rows =
-    stand bytes places (withTask sheet (taskAt bytes start)) (places-in bytes places sheet rows) (rows-from bytes places sheet rows)
+    stand bytes places (withTask sheet (taskAt bytes start size)) (places-in bytes places sheet rows) (rows-from bytes places sheet rows)
 field-stands bytes places sheet EndField start size inside kept room rows = rows
 field-stands bytes places sheet SkippedField start size inside kept room rows = rows
 

@@ -81,10 +81,15 @@ module _ (bytes : List ℕ) (fit : Bytes bytes) where
         followers-exist = λ j set. bit-within rowLimit _ j (long-narrow (start + 4)) set;
       }
 
-  pub task-proper : (start : ℕ) → Kept (taskRules (taskAt bytes start)) → ProperTask (taskAt bytes start)
+  pub task-proper : (start size : ℕ) → Kept (taskRules (taskAt bytes start size)) → ProperTask (taskAt bytes start size)
   unfolding taskRules
-  task-proper start k =
-      record { length = ticks-positive _ (k .0); period = ticks-positive _ (k .1 .0); deadline = ticks-positive _ (k .1 .1 .0) }
+  task-proper start size k =
+      record {
+        length = ticks-positive _ (k .0);
+        period = ticks-positive _ (k .1 .0);
+        deadline = ticks-positive _ (k .1 .1 .0);
+        jitter = leb-false _ _ (k .1 .1 .1 .0);
+      }
 
 -- a row is above those before it and not above the last mode
 pub row-rises : (bytes : List ℕ) (tally : Tally) (row : Row) → Kept (rowGapRules bytes tally row) → (tally .fastest .0 < row .speed .0) × (row .speed .0 ≤ tally .top .0)

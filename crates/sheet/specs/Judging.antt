@@ -54,7 +54,7 @@ ownRules bytes tally RefusedTag start size = []
 ownRules bytes tally LabelField start size = textRules bytes start size
 ownRules bytes tally ModeField start size = modeRules tally (modeAt bytes start size) size
 ownRules bytes tally RowField start size = rowGapRules bytes tally (rowAt bytes start)
-ownRules bytes tally TaskField start size = taskRules (taskAt bytes start)
+ownRules bytes tally TaskField start size = taskRules (taskAt bytes start size)
 ownRules bytes tally EndField start size = []
 ownRules bytes tally SkippedField start size = []
 
@@ -67,7 +67,7 @@ withField bytes sheet RefusedTag start size = sheet
 withField bytes sheet LabelField start size = withLabel sheet start size
 withField bytes sheet ModeField start size = withMode sheet (modeAt bytes start size)
 withField bytes sheet RowField start size = withRow sheet (rowAt bytes start)
-withField bytes sheet TaskField start size = withTask sheet (taskAt bytes start)
+withField bytes sheet TaskField start size = withTask sheet (taskAt bytes start size)
 withField bytes sheet EndField start size = sheet
 withField bytes sheet SkippedField start size = sheet
 

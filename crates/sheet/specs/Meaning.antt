@@ -49,9 +49,9 @@ graphOf bytes sheet =
       gap = λ k j. gapOf bytes (rowOf sheet k) j;
     }
 
--- a fixed task's three times as numbers
+-- a fixed task's four times as numbers
 abbrev pub timesOf : Task → fixed.Task
-timesOf task = record { length = task .length .0; period = task .period .0; deadline = task .deadline .0 }
+timesOf task = record { length = task .length .0; period = task .period .0; deadline = task .deadline .0; jitter = task .jitter .0 }
 
 -- each of them
 unfoldable pub eachTask : List Task → List fixed.Task

@@ -45,10 +45,12 @@ pub record ProperRow (bytes : List ℕ) (rows : ℕ) (row : Row) : Type 0 where
   pub gap-most : (i : ℕ) → i < followerCount (row .followers) → wordAt bytes (row .gaps + gapSize * i) ≤ longestTime
   pub followers-exist : (j : ℕ) → bit (row .followers) j ≡ 1 → j < rows
 
+-- a fixed task's times are in range, and its jitter is below its deadline
 pub record ProperTask (task : Task) : Type 0 where
   pub length : Positive (task .length)
   pub period : Positive (task .period)
   pub deadline : Positive (task .deadline)
+  pub jitter : task .jitter .0 < task .deadline .0
 
 pub record Proper (bytes : List ℕ) (sheet : Sheet) : Type 0 where
   pub label-inside : sheet .label .start + sheet .label .size ≤ length bytes

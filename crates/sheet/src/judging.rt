@@ -31,8 +31,8 @@ ghost use mathlib.Core.Bool.{true};
 ghost use mathlib.Core.List.{List, []};
 ghost use lib.ListN.{length};
 ghost use Rattle.fields.specs.Deciding.{firstBroken};
-ghost use Rattle.fields.specs.Limits.{modeLimit, rowLimit, taskLimit, modeSize, gapSize};
-ghost use Rattle.fields.specs.Reading.{fallbackAt, modeAt, taskAt};
+ghost use Rattle.fields.specs.Limits.{modeLimit, rowLimit, taskLimit, modeSize, taskSize, gapSize};
+ghost use Rattle.fields.specs.Reading.{fallbackAt, modeAt, jitterAt, taskAt};
 ghost use Rattle.rules.specs.Rules.{followerCount};
 ghost use Rattle.sheet.specs.Content.{gapShorter, rowGapRules};
 ghost use Rattle.sheet.specs.Values.{withLabel, withMode, withRow, withTask};
@@ -81,7 +81,7 @@ fn own_number(bytes: &[u8], tally: Tally, kind: Kind, start: usize, size: usize)
         Kind::LabelField => text_number(bytes, start, size),
         Kind::ModeField => mode_number(tally, mode_at(bytes, start, size), size),
         Kind::RowField => row_gap_number(bytes, tally, row_at(bytes, start)),
-        Kind::TaskField => task_number(task_at(bytes, start)),
+        Kind::TaskField => task_number(task_at(bytes, start, size)),
         Kind::EndField => 0,
         Kind::SkippedField => 0,
     }
@@ -137,7 +137,7 @@ pub(crate) fn with_field(bytes: &[u8], head: Head, kind: Kind, start: usize, siz
         Kind::LabelField => with_label(head, start, size),
         Kind::ModeField => with_mode(head, mode_at(bytes, start, size)),
         Kind::RowField => with_row(head, row_at(bytes, start)),
-        Kind::TaskField => with_task(head, task_at(bytes, start)),
+        Kind::TaskField => with_task(head, task_at(bytes, start, size)),
         Kind::EndField => head,
         Kind::SkippedField => head,
     }
@@ -219,18 +219,31 @@ fn fallback_at(bytes: &[u8], start: usize, size: usize) -> Rpm
     Rpm(word_at(bytes, start + Sheet::MODE))
 }
 
-fn task_at(bytes: &[u8], start: usize) -> Task
-    requires { ⌜ start + 6 ≤ length (now bytes) ⌝ }
-    ensures { λ r. ⌜ r ≡ taskAt (now (bytes .entry)) start ⌝ }
+fn task_at(bytes: &[u8], start: usize, size: usize) -> Task
+    requires { ⌜ start + taskSize ≤ length (now bytes) ⌝ }
+    ensures { λ r. ⌜ r ≡ taskAt (now (bytes .entry)) start size ⌝ }
 {
     let length = Ticks(word_at(bytes, start));
     let period = Ticks(word_at(bytes, start + 2));
     let deadline = Ticks(word_at(bytes, start + 4));
+    let jitter = jitter_at(bytes, start, size);
     Task {
         length: length,
         period: period,
         deadline: deadline,
+        jitter: jitter,
     }
+}
+
+// A field without a jitter says that it is 0.
+fn jitter_at(bytes: &[u8], start: usize, size: usize) -> Ticks
+    requires { ⌜ start + taskSize ≤ length (now bytes) ⌝ }
+    ensures { λ r. ⌜ r ≡ jitterAt (now (bytes .entry)) start size ⌝ }
+{
+    if size == Sheet::TASK {
+        return Ticks(0);
+    }
+    Ticks(word_at(bytes, start + Sheet::TASK))
 }
 
 fn with_label(head: Head, start: usize, size: usize) -> Head

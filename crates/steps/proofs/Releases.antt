@@ -7,20 +7,14 @@ use Rattle.meaning.specs.Fixed.{Task, fixedOf}
 use Rattle.overruns.proofs.Releases.{NextDue, fixed-by-jobs, due-now}
 use Rattle.steps.specs.Rising.{Rises, IsNextRise}
 
--- when a task's first job falls due after an interval
-module _ (task : Task) (positive : 1 ≤ task .period) (from : ℕ) (some : 1 ≤ from) where
-  -- the first of all
-  pub due-at-first : from ≤ task .deadline → NextDue task (from - 1) (task .deadline)
-  due-at-first h = record { jobs = 0; is = omega arith; after = omega arith; first = omega arith }
-
-  -- one after it: a period for each that came before
-  pub due-after : task .deadline < from
-      → NextDue task (from - 1) (task .deadline + ((from - task .deadline - 1) / task .period + 1) * task .period)
-  due-after h =
-      let left : ℕ = from - task .deadline - 1 in
-      let below : task .period * (left / task .period) ≤ left = mul-div-le left (task .period) in
-      let above : left < task .period * (left / task .period + 1) = lt-mul-div-succ left positive in
-      record { jobs = left / task .period + 1; is = omega arith; after = omega arith; first = omega arith }
+-- after a task's first job one falls due a period later for each that came before
+pub due-after : (task : Task) → 1 ≤ task .period → (first from : ℕ) → first + task .jitter ≡ task .deadline → first < from
+    → NextDue task (from - 1) (first + ((from - first - 1) / task .period + 1) * task .period)
+due-after task positive first from e h =
+    let left : ℕ = from - first - 1 in
+    let below : task .period * (left / task .period) ≤ left = mul-div-le left (task .period) in
+    let above : left < task .period * (left / task .period + 1) = lt-mul-div-succ left positive in
+    record { jobs = left / task .period + 1; is = omega (arith, e); after = omega arith; first = omega (arith, e) }
 
 -- where a task's next job falls due at `due`, its demand rises there and not before
 module _ (task : Task) (work : 1 ≤ task .length) (positive : 1 ≤ task .period) (from : ℕ) (some : 1 ≤ from) (due : ℕ) (next : NextDue task (from - 1) due) where

@@ -1,6 +1,7 @@
 // The steps of a curve: up to which horizon they are read, and at which intervals the engine's demand, or fixed demand, rises.
 use fields::values::Sheet;
 use fields::values::Task;
+use overruns::tasks::first_due;
 use tables::interval::demand_of;
 ghost use Prim.Native.Nat.{_+_, _*_, _≤_, min};
 ghost use mathlib.Core.Path.{_≡_};
@@ -8,6 +9,7 @@ ghost use lib.ListN.{length};
 ghost use Rattle.meaning.specs.Demand.{longestTime};
 ghost use Rattle.meaning.specs.Fixed.{fixedOf, fixedSum};
 ghost use Rattle.sheet.specs.Meaning.{timesOf};
+ghost use Rattle.sheet.specs.Proper.{ProperTask};
 ghost use Rattle.tables.specs.Lines.{demandIn};
 ghost use Rattle.overruns.specs.Releases.{countedTasks, ProperTasks};
 ghost use Rattle.steps.specs.Rising.{IsHorizon, IsNextRise};
@@ -65,14 +67,14 @@ pub fn next_fixed_rise(
     next
 }
 
-// The same for the demand of one fixed task, which rises where a job of it falls due: at its deadline, and a period after each before.
+// The same for the demand of one fixed task, which rises where a job of it falls due: its first one, and a period after each before.
 fn next_due(task: Task, horizon: usize, from: usize) -> usize
-    requires { ⌜ (1 ≤ task .length .0) × (1 ≤ task .period .0) × (1 ≤ task .deadline .0) ⌝ }
+    requires { ⌜ ProperTask task ⌝ }
     requires { ⌜ horizon ≤ longestTime ⌝ }
     requires { ⌜ (1 ≤ from) × (from ≤ horizon + 1) ⌝ }
     ensures { λ r. ⌜ IsNextRise (fixedOf (timesOf task)) horizon from r ⌝ }
 {
-    let first = task.deadline.0 as usize;
+    let first = first_due(task.deadline, task.jitter);
     if from <= first {
         return sooner(first, horizon + 1);
     }

@@ -12,7 +12,7 @@ use Rattle.sheet.specs.declared.Answer.the-variants as sheet-case
 use Rattle.sheet.specs.declared.Judged.{Judged}
 use Rattle.beginning.specs.Beginning.{Begins}
 use Rattle.beginning.proofs.Beginnings.{begins-answering}
-use Rattle.written.specs.Judging.{bandCount, sheetSize, valuesRules}
+use Rattle.written.specs.Judging.{bandCount, jitterCount, sheetSize, valuesRules}
 use Rattle.written.specs.Values.{Values}
 use Rattle.written.specs.Written.{written}
 use Rattle.written.proofs.JudgedWritten.{judged-written, accepted-written}
@@ -34,11 +34,11 @@ module _ (values : Values) (output : List ℕ) (number : ℕ) (told : number ≡
   accepted none = ap (λ (said : Judged). said .answer) (accepted-written values (sym told ∙ none))
 
   -- none is, and the output is shorter than the sheet
-  pub refuses-room : (answer : WriteAnswer) (bands size : ℕ) → number ≡ 0 → bands ≡ bandCount (values .boundaries) (values .fallbacks)
-      → size ≡ sheetSize (length (values .label)) (length (values .boundaries)) bands (length (values .speeds)) (length (values .gaps)) (length (values .taskLengths))
+  pub refuses-room : (answer : WriteAnswer) (bands jitters size : ℕ) → number ≡ 0 → bands ≡ bandCount (values .boundaries) (values .fallbacks) → jitters ≡ jitterCount (values .taskJitters)
+      → size ≡ sheetSize (length (values .label)) (length (values .boundaries)) bands (length (values .speeds)) (length (values .gaps)) (length (values .taskLengths)) jitters
       → length output < size → answer ≡ Refused 15 0 → WriteCall values output answer output
   unfolding pick
-  refuses-room answer bands size none counted sized short is =
+  refuses-room answer bands jitters size none banded jittered sized short is =
       let long : length output < length (written values) = omega (arith, size-written values (sym told ∙ none)) in
       rw (accepted none, lt-ltb (length output) (length (written values)) long) (is, refl)
 

@@ -6,7 +6,7 @@ ghost use mathlib.Core.Path.{_≡_};
 ghost use Prim.Native.Nat.{_*_, _≤_};
 ghost use lib.ListN.{length};
 ghost use Rattle.fields.specs.Limits.{modeLimit, rowLimit, taskLimit, labelLimit};
-ghost use Rattle.written.specs.Judging.{bandCount, sheetSize};
+ghost use Rattle.written.specs.Judging.{bandCount, jitterCount, sheetSize};
 ghost use Rattle.written.specs.Values.{valuesFrom};
 ghost use Rattle.writer.specs.Calls.{WriteCall};
 ghost use Rattle.writer.specs.declared.WriteAnswer.the-variants.{Refused};
@@ -30,9 +30,10 @@ pub fn write(
     task_lengths: &[u16],
     task_periods: &[u16],
     task_deadlines: &[u16],
+    task_jitters: &[u16],
     output: &mut [u8],
 ) -> WriteAnswer
-    ensures { λ r. ⌜ WriteCall (valuesFrom (now (label .entry)) (now (boundaries .entry)) (now (lengths .entry)) (now (fallbacks .entry)) (now (speeds .entry)) (now (deadlines .entry)) (now (sets .entry)) (now (gaps .entry)) (now («task_lengths» .entry)) (now («task_periods» .entry)) (now («task_deadlines» .entry))) (now (output .entry)) r (now (output .exit)) ⌝ }
+    ensures { λ r. ⌜ WriteCall (valuesFrom (now (label .entry)) (now (boundaries .entry)) (now (lengths .entry)) (now (fallbacks .entry)) (now (speeds .entry)) (now (deadlines .entry)) (now (sets .entry)) (now (gaps .entry)) (now («task_lengths» .entry)) (now («task_periods» .entry)) (now («task_deadlines» .entry)) (now («task_jitters» .entry))) (now (output .entry)) r (now (output .exit)) ⌝ }
 {
     let number = values_number(
         label,
@@ -46,6 +47,7 @@ pub fn write(
         task_lengths,
         task_periods,
         task_deadlines,
+        task_jitters,
     );
     if number != 0 {
         return refused(number);
@@ -57,6 +59,7 @@ pub fn write(
         speeds.len(),
         gaps.len(),
         task_lengths.len(),
+        jittered(task_jitters),
     );
     if output.len() < size {
         return refused(15);
@@ -74,6 +77,7 @@ pub fn write(
         task_lengths,
         task_periods,
         task_deadlines,
+        task_jitters,
     );
     WriteAnswer::Written { size: size }
 }
@@ -104,6 +108,21 @@ fn bands(boundaries: &[u16], fallbacks: &[u16]) -> usize
     count
 }
 
+// How many fixed tasks have a jitter that is not 0.
+fn jittered(jitters: &[u16]) -> usize
+    ensures { λ r. ⌜ r ≡ jitterCount (now (jitters .entry)) ⌝ }
+{
+    let mut count: usize = 0;
+    let mut number: usize = 0;
+    while number < jitters.len() {
+        if jitters[number] != 0 {
+            count += 1;
+        }
+        number += 1;
+    }
+    count
+}
+
 // How many bytes a sheet has: each field has three before its content, and the end field has no more.
 fn size_of(
     label: usize,
@@ -112,9 +131,10 @@ fn size_of(
     rows: usize,
     gaps: usize,
     tasks: usize,
+    jitters: usize,
 ) -> usize
-    requires { ⌜ (label ≤ labelLimit) × (modes ≤ modeLimit) × (bands ≤ modeLimit) × (rows ≤ rowLimit) × (gaps ≤ rowLimit * rowLimit) × (tasks ≤ taskLimit) ⌝ }
-    ensures { λ r. ⌜ r ≡ sheetSize label modes bands rows gaps tasks ⌝ }
+    requires { ⌜ (label ≤ labelLimit) × (modes ≤ modeLimit) × (bands ≤ modeLimit) × (rows ≤ rowLimit) × (gaps ≤ rowLimit * rowLimit) × (tasks ≤ taskLimit) × (jitters ≤ taskLimit) ⌝ }
+    ensures { λ r. ⌜ r ≡ sheetSize label modes bands rows gaps tasks jitters ⌝ }
 {
     6
         + label
@@ -122,5 +142,6 @@ fn size_of(
         + Sheet::FALLBACK * bands
         + (3 + Sheet::HEAD) * rows
         + Sheet::GAP * gaps
-        + 9 * tasks
+        + (3 + Sheet::TASK) * tasks
+        + Sheet::JITTER * jitters
 }

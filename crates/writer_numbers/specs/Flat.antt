@@ -22,4 +22,4 @@ abbrev pub flatRow : RowValues → RowForC
 flatRow row = record { speed = row .speed .0; deadline = row .deadline .0; followers = row .followers; length = row .length .0 }
 
 abbrev pub flatTask : Task → TaskForC
-flatTask task = record { length = task .length .0; period = task .period .0; deadline = task .deadline .0 }
+flatTask task = record { length = task .length .0; period = task .period .0; deadline = task .deadline .0; jitter = task .jitter .0 }

@@ -34,6 +34,7 @@ pub struct TaskForC {
     pub length: u16,
     pub period: u16,
     pub deadline: u16,
+    pub jitter: u16,
 }
 
 pub fn write_numbers(answer: WriteAnswer) -> WriteForC
@@ -81,5 +82,6 @@ pub fn task_numbers(task: Task) -> TaskForC
         length: task.length.0,
         period: task.period.0,
         deadline: task.deadline.0,
+        jitter: task.jitter.0,
     }
 }

@@ -2,20 +2,18 @@
 use Prim.Native.Nat.{ℕ, _+_, _≤_}
 use native.Mathlib.Omega.{arith}
 use mathlib.Core.Path.{_≡_, _∙_, refl, sym, ap}
-use mathlib.Core.Logic.{⊎-elim}
 use mathlib.Core.List.{List, [], _∷_, _++_}
 use mathlib.Core.Bool.{true, false, true≢false}
 use lib.Dec.{eqb}
 use lib.ListN.{length, take, drop, length-drop, take-append-drop}
 use lib.Seq.{length-take-le}
 use borrow.Author.Tests.{eq-eqb}
-use Rattle.meaning.proofs.Tests.{bool-or}
 use Rattle.fields.specs.Deciding.{Rule, _when_, pick, firstBroken}
 use Rattle.fields.specs.Fields.{lineOf, fields, kindOf}
 use Rattle.fields.specs.Reading.{wordAt, modeAt, rowAt, taskAt}
 use Rattle.fields.specs.Limits.{modeSize}
-use Rattle.fields.specs.Values.{emptySheet, shortSize}
-use Rattle.rules.specs.Rules.{outOfOrder, wrongLength, full, unknownFollower, badFallback, commonRules, textRules, modeRules}
+use Rattle.fields.specs.Values.{emptySheet, shortSize, shortTaskSize}
+use Rattle.rules.specs.Rules.{outOfOrder, wrongLength, full, unknownFollower, badFallback, commonRules, textRules, modeRules, taskRules}
 use Rattle.sheet.specs.Judging.{refusal, headRules, ownRules, fieldRules, withField, checked, judged}
 use Rattle.sheet.specs.Proper.{Bytes}
 use Rattle.fields.specs.declared.values.Tally.{Tally}
@@ -34,11 +32,11 @@ use Rattle.written.proofs.Columns.{values-entries}
 use Rattle.written.proofs.Entered.{InOrder, Entered, empty-in-order, none-entered, label-before, with-label, with-mode, with-row, with-task}
 use Rattle.written.proofs.EntriesKept.{rules-both, count-both}
 use Rattle.written.proofs.EntryFields.{entry-judged}
-use Rattle.written.proofs.FieldBytes.{row-content, task-content}
+use Rattle.written.proofs.FieldBytes.{row-content}
 use Rattle.written.proofs.JudgedWritten.{unknown-alike, accepted-written}
-use Rattle.written.proofs.ModeNumbers.{short-right}
 use Rattle.written.proofs.Named.{Named}
 use Rattle.written.proofs.Sheets.{rowEntry, entrySheet, entriesIn}
+use Rattle.written.proofs.ShortNumbers.{either-way, short-right, task-short-right}
 
 -- rules that are all kept leave what stands behind them, and rules that leave an acceptance are all kept
 kept-leaves : (place : ℕ) (rules : List Rule) (ok : Judged) → Kept rules → checked place rules ok ≡ ok
@@ -62,6 +60,11 @@ kept-none (n when false ∷ rules) kept = kept-none rules (kept .1)
 kept-both : (first behind : List Rule) → Kept first → Kept behind → Kept (first ++ behind)
 kept-both [] behind a b = b
 kept-both (n when test ∷ first) behind a b = (a .0, kept-both first behind (a .1) b)
+
+-- the first rules are kept with another length too, where rule 5 allows it
+other-length : (tag last size other count : ℕ) → Kept (commonRules tag last size false count) → wrongLength tag other ≡ false → Kept (commonRules tag last other false count)
+unfolding commonRules
+other-length tag last size other count kept right = (kept .0, (right, kept .1 .1))
 
 module _ (bytes : List ℕ) (fit : Bytes bytes) where
   -- the entries of the sheet so far keep the rules, and the tally counts them
@@ -91,22 +94,26 @@ module _ (bytes : List ℕ) (fit : Bytes bytes) where
   short-fallback : (tally : Tally) (start size : ℕ) → let mode = modeAt bytes start size in badFallback tally mode size ≡ false → badFallback tally mode (shortSize mode) ≡ false
   unfolding badFallback shortSize pick
   short-fallback tally start size kept =
-      ⊎-elim
-      (λ (e : eqb size modeSize ≡ true). let same : eqb (wordAt bytes start) (wordAt bytes start) ≡ true = eq-eqb (wordAt bytes start) (wordAt bytes start) refl in rw (e, same) refl)
-      (λ (e : eqb size modeSize ≡ false).
-      ⊎-elim
-      (λ (same : eqb (wordAt bytes (start + modeSize)) (wordAt bytes start) ≡ true). rw (e, same) refl)
-      (λ (other : eqb (wordAt bytes (start + modeSize)) (wordAt bytes start) ≡ false). rw (e, other) (rw e at kept))
-      (bool-or (eqb (wordAt bytes (start + modeSize)) (wordAt bytes start))))
-      (bool-or (eqb size modeSize))
+      either-way (eqb size modeSize) _
+      (λ e. let same : eqb (wordAt bytes start) (wordAt bytes start) ≡ true = eq-eqb (wordAt bytes start) (wordAt bytes start) refl in rw (e, same) refl)
+      (λ e.
+      either-way (eqb (wordAt bytes (start + modeSize)) (wordAt bytes start)) _ (λ same. rw (e, same) refl) (λ other. rw (e, other) (rw e at kept)))
 
-  -- so its entry keeps its own rules
+  -- so its entry keeps its own rules, and so does that of a fixed task
   mode-kept : (sheet : Sheet) (start size : ℕ) → let mode = modeAt bytes start size in
       Kept (commonRules 2 (sheet .tally .last) size false (sheet .tally .modes)) → Kept (modeRules (sheet .tally) mode size) → Kept (entryRules (sheet .tally) (ModeEntry mode))
-  unfolding entryRules commonRules modeRules
+  unfolding entryRules modeRules
   mode-kept sheet start size head own =
       let mode = modeAt bytes start size in
-      (head .0, (short-right mode, (head .1 .1 .0, (head .1 .1 .1 .0, (own .0, (own .1 .0, (short-fallback (sheet .tally) start size (own .1 .1 .0), own .1 .1 .1)))))))
+      kept-both (commonRules 2 (sheet .tally .last) (shortSize mode) false (sheet .tally .modes)) _ (other-length 2 _ size _ _ head (short-right mode))
+      (own .0, (own .1 .0, (short-fallback (sheet .tally) start size (own .1 .1 .0), own .1 .1 .1)))
+
+  task-kept : (sheet : Sheet) (start size : ℕ) → let task = taskAt bytes start size in
+      Kept (commonRules 4 (sheet .tally .last) size false (sheet .tally .tasks)) → Kept (taskRules task) → Kept (entryRules (sheet .tally) (TaskEntry task))
+  unfolding entryRules
+  task-kept sheet start size head own =
+      let task = taskAt bytes start size in
+      kept-both (commonRules 4 (sheet .tally .last) (shortTaskSize task) false (sheet .tally .tasks)) _ (other-length 4 _ size _ _ head (task-short-right task)) own
 
   -- one field more
   one-more : (sheet : Sheet) (entry : Entry) (grown : Sheet) → SoFar sheet → Entered bytes sheet entry grown → countEntry (sheet .tally) entry ≡ grown .tally
@@ -159,10 +166,7 @@ module _ (bytes : List ℕ) (fit : Bytes bytes) where
             let content = row-content bytes fit start size inside (row-length _ _ (common-says _ _ _ _ _ common .2)) in
             one-more sheet entry _ p (with-row bytes sheet (p .order) size _ (rowAt bytes start) common) refl (entry-kept sheet start size entry tt inside content common own);
         task = λ sheet at start size next e p common own.
-            let inside : start + size ≤ length bytes = omega (arith, field-in bytes at _ start size next e) in
-            let entry = TaskEntry (taskAt bytes start) in
-            let content = task-content bytes fit start size inside (common-says _ _ _ _ _ common .1) in
-            one-more sheet entry _ p (with-task bytes sheet (p .order) size _ (taskAt bytes start) common) refl (entry-kept sheet start size entry tt inside content common own);
+            one-more sheet (TaskEntry (taskAt bytes start size)) _ p (with-task bytes sheet (p .order) size _ (taskAt bytes start size) common) refl (task-kept sheet start size common own);
         skipped = λ sheet at start size next e p. p;
         accepted = λ sheet at start size next e p order long followers end a. ended sheet p order followers;
       }

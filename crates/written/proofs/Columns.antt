@@ -28,14 +28,14 @@ words-count bytes at zero = refl
 words-count bytes at (suc count) = ap suc (words-count bytes (at + 2) count)
 
 -- the modes, rows and tasks that were read
-modes-entries : (modes : List Mode)
+pub modes-entries : (modes : List Mode)
     → modeEntries (map (λ mode. mode .boundary .0) modes) (map (λ mode. mode .length .0) modes) (map (λ mode. mode .fallback .0) modes) ≡ map ModeEntry modes
 unfolding modeEntries
 modes-entries [] = refl
 modes-entries (mode ∷ modes) = ap (λ (l : List Entry). ModeEntry mode ∷ l) (modes-entries modes)
 
-tasks-entries : (tasks : List Task)
-    → taskEntries (map (λ task. task .length .0) tasks) (map (λ task. task .period .0) tasks) (map (λ task. task .deadline .0) tasks) ≡ map TaskEntry tasks
+pub tasks-entries : (tasks : List Task)
+    → taskEntries (map (λ task. task .length .0) tasks) (map (λ task. task .period .0) tasks) (map (λ task. task .deadline .0) tasks) (map (λ task. task .jitter .0) tasks) ≡ map TaskEntry tasks
 unfolding taskEntries
 tasks-entries [] = refl
 tasks-entries (task ∷ tasks) = ap (λ (l : List Entry). TaskEntry task ∷ l) (tasks-entries tasks)
@@ -72,22 +72,23 @@ Whole (entry ∷ more) = Uncut entry × Whole more
 -- the columns with what an entry puts in front of them
 unfoldable pub inFront : Entry → Values → Values
 inFront (LabelEntry text) values =
-    valuesFrom text (values .boundaries) (values .lengths) (values .fallbacks) (values .speeds) (values .deadlines) (values .sets) (values .gaps) (values .taskLengths) (values .taskPeriods) (values .taskDeadlines)
+    valuesFrom text (values .boundaries) (values .lengths) (values .fallbacks) (values .speeds) (values .deadlines) (values .sets) (values .gaps)
+    (values .taskLengths) (values .taskPeriods) (values .taskDeadlines) (values .taskJitters)
 inFront (ModeEntry mode) values =
     valuesFrom (values .label) (mode .boundary .0 ∷ values .boundaries) (mode .length .0 ∷ values .lengths) (mode .fallback .0 ∷ values .fallbacks)
-    (values .speeds) (values .deadlines) (values .sets) (values .gaps) (values .taskLengths) (values .taskPeriods) (values .taskDeadlines)
+    (values .speeds) (values .deadlines) (values .sets) (values .gaps) (values .taskLengths) (values .taskPeriods) (values .taskDeadlines) (values .taskJitters)
 inFront (RowEntry speed deadline followers gaps) values =
     valuesFrom (values .label) (values .boundaries) (values .lengths) (values .fallbacks)
     (speed .0 ∷ values .speeds) (deadline .0 ∷ values .deadlines) (followers ∷ values .sets) (gaps ++ values .gaps)
-    (values .taskLengths) (values .taskPeriods) (values .taskDeadlines)
+    (values .taskLengths) (values .taskPeriods) (values .taskDeadlines) (values .taskJitters)
 inFront (TaskEntry task) values =
     valuesFrom (values .label) (values .boundaries) (values .lengths) (values .fallbacks) (values .speeds) (values .deadlines) (values .sets) (values .gaps)
-    (task .length .0 ∷ values .taskLengths) (task .period .0 ∷ values .taskPeriods) (task .deadline .0 ∷ values .taskDeadlines)
+    (task .length .0 ∷ values .taskLengths) (task .period .0 ∷ values .taskPeriods) (task .deadline .0 ∷ values .taskDeadlines) (task .jitter .0 ∷ values .taskJitters)
 inFront (CutEntry tag) values = values
 
 -- the columns of entries
 unfoldable pub columns : List Entry → Values
-columns [] = valuesFrom [] [] [] [] [] [] [] [] [] [] []
+columns [] = valuesFrom [] [] [] [] [] [] [] [] [] [] [] []
 columns (entry ∷ more) = inFront entry (columns more)
 
 -- where entries keep the rules, whatever was counted before, none is cut and their columns are these values
@@ -109,21 +110,25 @@ one-more entry more values uncut told tally kept =
     ((uncut, rest .0), ap (inFront entry) (rest .1))
 
 -- tasks alone
-task-columns : (lengths periods deadlines : List ℕ) → Telling (taskEntries lengths periods deadlines) (valuesFrom [] [] [] [] [] [] [] [] lengths periods deadlines)
+task-columns : (lengths periods deadlines jitters : List ℕ)
+    → Telling (taskEntries lengths periods deadlines jitters) (valuesFrom [] [] [] [] [] [] [] [] lengths periods deadlines jitters)
 unfolding taskEntries columns inFront lineOf fields
-task-columns [] [] [] tally kept = (tt, refl)
-task-columns [] [] (deadline ∷ deadlines) tally kept = absurd (cut-broken 4 _ tally (omega arith) kept)
-task-columns [] (period ∷ periods) deadlines tally kept = absurd (cut-broken 4 _ tally (omega arith) kept)
-task-columns (length ∷ lengths) [] deadlines tally kept = absurd (cut-broken 4 _ tally (omega arith) kept)
-task-columns (length ∷ lengths) (period ∷ periods) [] tally kept = absurd (cut-broken 4 _ tally (omega arith) kept)
-task-columns (length ∷ lengths) (period ∷ periods) (deadline ∷ deadlines) tally kept =
-    let entry = TaskEntry (record { length = record { 0 = length }; period = record { 0 = period }; deadline = record { 0 = deadline } }) in
-    one-more entry _ _ tt (task-columns lengths periods deadlines) tally kept
+task-columns [] [] [] [] tally kept = (tt, refl)
+task-columns [] [] [] (jitter ∷ jitters) tally kept = absurd (cut-broken 4 _ tally (omega arith) kept)
+task-columns [] [] (deadline ∷ deadlines) jitters tally kept = absurd (cut-broken 4 _ tally (omega arith) kept)
+task-columns [] (period ∷ periods) deadlines jitters tally kept = absurd (cut-broken 4 _ tally (omega arith) kept)
+task-columns (length ∷ lengths) [] deadlines jitters tally kept = absurd (cut-broken 4 _ tally (omega arith) kept)
+task-columns (length ∷ lengths) (period ∷ periods) [] jitters tally kept = absurd (cut-broken 4 _ tally (omega arith) kept)
+task-columns (length ∷ lengths) (period ∷ periods) (deadline ∷ deadlines) [] tally kept = absurd (cut-broken 4 _ tally (omega arith) kept)
+task-columns (length ∷ lengths) (period ∷ periods) (deadline ∷ deadlines) (jitter ∷ jitters) tally kept =
+    let entry = TaskEntry (record { length = record { 0 = length }; period = record { 0 = period }; deadline = record { 0 = deadline }; jitter = record { 0 = jitter } }) in
+    one-more entry _ _ tt (task-columns lengths periods deadlines jitters) tally kept
 
 -- rows in front of entries that have none
-module _ (more : List Entry) (taskLengths taskPeriods taskDeadlines : List ℕ) (told : Telling more (valuesFrom [] [] [] [] [] [] [] [] taskLengths taskPeriods taskDeadlines)) where
+module _ (more : List Entry) (taskLengths taskPeriods taskDeadlines taskJitters : List ℕ)
+    (told : Telling more (valuesFrom [] [] [] [] [] [] [] [] taskLengths taskPeriods taskDeadlines taskJitters)) where
   row-columns : (speeds deadlines sets gaps : List ℕ)
-      → Telling (rowEntries speeds deadlines sets gaps ++ more) (valuesFrom [] [] [] [] speeds deadlines sets gaps taskLengths taskPeriods taskDeadlines)
+      → Telling (rowEntries speeds deadlines sets gaps ++ more) (valuesFrom [] [] [] [] speeds deadlines sets gaps taskLengths taskPeriods taskDeadlines taskJitters)
   unfolding rowEntries inFront lineOf fields
   row-columns [] [] [] [] tally kept = told tally kept
   row-columns [] [] [] (gap ∷ gaps) tally kept = absurd (cut-broken 3 _ tally (omega arith) kept)
@@ -135,14 +140,14 @@ module _ (more : List Entry) (taskLengths taskPeriods taskDeadlines : List ℕ) 
       let count = followerCount followers in
       let entry = RowEntry (record { 0 = speed }) (record { 0 = deadline }) followers (take count gaps) in
       let all = one-more entry _ _ tt (row-columns speeds deadlines sets (drop count gaps)) tally kept in
-      let with-gaps : List ℕ → Values = λ own. valuesFrom [] [] [] [] (speed ∷ speeds) (deadline ∷ deadlines) (followers ∷ sets) own taskLengths taskPeriods taskDeadlines in
+      let with-gaps : List ℕ → Values = λ own. valuesFrom [] [] [] [] (speed ∷ speeds) (deadline ∷ deadlines) (followers ∷ sets) own taskLengths taskPeriods taskDeadlines taskJitters in
       (all .0, all .1 ∙ ap with-gaps (take-append-drop count gaps))
 
 -- modes in front of entries that have none
-module _ (more : List Entry) (speeds deadlines sets gaps taskLengths taskPeriods taskDeadlines : List ℕ)
-    (told : Telling more (valuesFrom [] [] [] [] speeds deadlines sets gaps taskLengths taskPeriods taskDeadlines)) where
+module _ (more : List Entry) (speeds deadlines sets gaps taskLengths taskPeriods taskDeadlines taskJitters : List ℕ)
+    (told : Telling more (valuesFrom [] [] [] [] speeds deadlines sets gaps taskLengths taskPeriods taskDeadlines taskJitters)) where
   mode-columns : (boundaries lengths fallbacks : List ℕ)
-      → Telling (modeEntries boundaries lengths fallbacks ++ more) (valuesFrom [] boundaries lengths fallbacks speeds deadlines sets gaps taskLengths taskPeriods taskDeadlines)
+      → Telling (modeEntries boundaries lengths fallbacks ++ more) (valuesFrom [] boundaries lengths fallbacks speeds deadlines sets gaps taskLengths taskPeriods taskDeadlines taskJitters)
   unfolding modeEntries inFront lineOf fields
   mode-columns [] [] [] tally kept = told tally kept
   mode-columns [] [] (fallback ∷ fallbacks) tally kept = absurd (cut-broken 2 _ tally (omega arith) kept)
@@ -157,9 +162,9 @@ module _ (more : List Entry) (speeds deadlines sets gaps taskLengths taskPeriods
 pub entries-columns : (values : Values) (tally : Tally) → Kept (entriesRules tally (entries values)) → Whole (entries values) × (columns (entries values) ≡ values)
 unfolding entries inFront
 entries-columns values =
-    let tasks = task-columns (values .taskLengths) (values .taskPeriods) (values .taskDeadlines) in
-    let rows = row-columns _ _ _ _ tasks (values .speeds) (values .deadlines) (values .sets) (values .gaps) in
-    one-more (LabelEntry (values .label)) _ _ tt (mode-columns _ _ _ _ _ _ _ _ rows (values .boundaries) (values .lengths) (values .fallbacks))
+    let tasks = task-columns (values .taskLengths) (values .taskPeriods) (values .taskDeadlines) (values .taskJitters) in
+    let rows = row-columns _ _ _ _ _ tasks (values .speeds) (values .deadlines) (values .sets) (values .gaps) in
+    one-more (LabelEntry (values .label)) _ _ tt (mode-columns _ _ _ _ _ _ _ _ _ rows (values .boundaries) (values .lengths) (values .fallbacks))
 
 -- and so their entries tell them apart
 pub entries-tell : (one other : Values) (tally : Tally) → Kept (entriesRules tally (entries other)) → entries one ≡ entries other → one ≡ other

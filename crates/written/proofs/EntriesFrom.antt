@@ -60,39 +60,52 @@ module _ (boundaries lengths fallbacks : List ℕ) (at : ℕ) where
       (λ one other last. some-more (none-left at boundaries one) (none-left at lengths other) (none-left at fallbacks last))
 
 -- the fixed task at a place, and those from it on
-abbrev pub taskAmong : List ℕ → List ℕ → List ℕ → ℕ → Entry
-taskAmong lengths periods deadlines at =
-    TaskEntry (record { length = record { 0 = getD lengths at 0 }; period = record { 0 = getD periods at 0 }; deadline = record { 0 = getD deadlines at 0 } })
+abbrev pub taskAmong : List ℕ → List ℕ → List ℕ → List ℕ → ℕ → Entry
+taskAmong lengths periods deadlines jitters at =
+    TaskEntry (record {
+      length = record { 0 = getD lengths at 0 };
+      period = record { 0 = getD periods at 0 };
+      deadline = record { 0 = getD deadlines at 0 };
+      jitter = record { 0 = getD jitters at 0 };
+    })
 
-abbrev pub tasksFrom : List ℕ → List ℕ → List ℕ → ℕ → List Entry
-tasksFrom lengths periods deadlines at = taskEntries (drop at lengths) (drop at periods) (drop at deadlines)
+abbrev pub tasksFrom : List ℕ → List ℕ → List ℕ → List ℕ → ℕ → List Entry
+tasksFrom lengths periods deadlines jitters at = taskEntries (drop at lengths) (drop at periods) (drop at deadlines) (drop at jitters)
 
 -- fixed tasks whose columns part at once
-tasks-cut : (lengths periods deadlines : List ℕ) → (0 < length lengths → 0 < length periods → 0 < length deadlines → ⊥)
-    → (length lengths ≤ 0 → length periods ≤ 0 → length deadlines ≤ 0 → ⊥) → taskEntries lengths periods deadlines ≡ CutEntry 4 ∷ []
+tasks-cut : (lengths periods deadlines jitters : List ℕ) → (0 < length lengths → 0 < length periods → 0 < length deadlines → 0 < length jitters → ⊥)
+    → (length lengths ≤ 0 → length periods ≤ 0 → length deadlines ≤ 0 → length jitters ≤ 0 → ⊥) → taskEntries lengths periods deadlines jitters ≡ CutEntry 4 ∷ []
 unfolding taskEntries
-tasks-cut [] [] [] no-more some-more = absurd (some-more (omega arith) (omega arith) (omega arith))
-tasks-cut [] [] (deadline ∷ deadlines) no-more some-more = refl
-tasks-cut [] (period ∷ periods) deadlines no-more some-more = refl
-tasks-cut (length ∷ lengths) [] deadlines no-more some-more = refl
-tasks-cut (length ∷ lengths) (period ∷ periods) [] no-more some-more = refl
-tasks-cut (length ∷ lengths) (period ∷ periods) (deadline ∷ deadlines) no-more some-more = absurd (no-more (omega arith) (omega arith) (omega arith))
+tasks-cut [] [] [] [] no-more some-more = absurd (some-more (omega arith) (omega arith) (omega arith) (omega arith))
+tasks-cut [] [] [] (jitter ∷ jitters) no-more some-more = refl
+tasks-cut [] [] (deadline ∷ deadlines) jitters no-more some-more = refl
+tasks-cut [] (period ∷ periods) deadlines jitters no-more some-more = refl
+tasks-cut (length ∷ lengths) [] deadlines jitters no-more some-more = refl
+tasks-cut (length ∷ lengths) (period ∷ periods) [] jitters no-more some-more = refl
+tasks-cut (length ∷ lengths) (period ∷ periods) (deadline ∷ deadlines) [] no-more some-more = refl
+tasks-cut (length ∷ lengths) (period ∷ periods) (deadline ∷ deadlines) (jitter ∷ jitters) no-more some-more =
+    absurd (no-more (omega arith) (omega arith) (omega arith) (omega arith))
 
-module _ (lengths periods deadlines : List ℕ) (at : ℕ) where
-  pub tasks-next : at < length lengths → at < length periods → at < length deadlines
-      → tasksFrom lengths periods deadlines at ≡ taskAmong lengths periods deadlines at ∷ tasksFrom lengths periods deadlines (at + 1)
+module _ (lengths periods deadlines jitters : List ℕ) (at : ℕ) where
+  pub tasks-next : at < length lengths → at < length periods → at < length deadlines → at < length jitters
+      → tasksFrom lengths periods deadlines jitters at ≡ taskAmong lengths periods deadlines jitters at ∷ tasksFrom lengths periods deadlines jitters (at + 1)
   unfolding taskEntries
-  tasks-next one other last = rw (number-there at lengths one, number-there at periods other, number-there at deadlines last) refl
+  tasks-next one other third last =
+      rw (number-there at lengths one, number-there at periods other, number-there at deadlines third, number-there at jitters last) refl
 
-  pub tasks-end : length lengths ≤ at → length periods ≤ at → length deadlines ≤ at → tasksFrom lengths periods deadlines at ≡ []
+  pub tasks-end : length lengths ≤ at → length periods ≤ at → length deadlines ≤ at → length jitters ≤ at → tasksFrom lengths periods deadlines jitters at ≡ []
   unfolding taskEntries
-  tasks-end one other last = rw (drop-of-length-le lengths {i = at} one, drop-of-length-le periods {i = at} other, drop-of-length-le deadlines {i = at} last) refl
+  tasks-end one other third last =
+      rw
+      (drop-of-length-le lengths {i = at} one, drop-of-length-le periods {i = at} other, drop-of-length-le deadlines {i = at} third, drop-of-length-le jitters {i = at} last)
+      refl
 
-  pub tasks-part : (at < length lengths → at < length periods → at < length deadlines → ⊥) → (length lengths ≤ at → length periods ≤ at → length deadlines ≤ at → ⊥)
-      → tasksFrom lengths periods deadlines at ≡ CutEntry 4 ∷ []
+  pub tasks-part : (at < length lengths → at < length periods → at < length deadlines → at < length jitters → ⊥)
+      → (length lengths ≤ at → length periods ≤ at → length deadlines ≤ at → length jitters ≤ at → ⊥) → tasksFrom lengths periods deadlines jitters at ≡ CutEntry 4 ∷ []
   tasks-part no-more some-more =
-      tasks-cut (drop at lengths) (drop at periods) (drop at deadlines) (λ one other last. no-more (left at lengths one) (left at periods other) (left at deadlines last))
-      (λ one other last. some-more (none-left at lengths one) (none-left at periods other) (none-left at deadlines last))
+      tasks-cut (drop at lengths) (drop at periods) (drop at deadlines) (drop at jitters)
+      (λ one other third last. no-more (left at lengths one) (left at periods other) (left at deadlines third) (left at jitters last))
+      (λ one other third last. some-more (none-left at lengths one) (none-left at periods other) (none-left at deadlines third) (none-left at jitters last))
 
 -- the rows from a place of the three columns on, with the gaps from a place of theirs on
 abbrev pub rowsFrom : List ℕ → List ℕ → List ℕ → List ℕ → ℕ → ℕ → List Entry

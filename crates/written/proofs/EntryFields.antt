@@ -4,17 +4,15 @@ use native.Mathlib.Nat.{div-add-mod', zero-add}
 use native.Mathlib.Omega.{arith}
 use mathlib.Core.Path.{_≡_, _∙_, refl, sym, ap}
 use mathlib.Core.List.{List, [], _∷_, _++_}
-use mathlib.Core.Bool.{true, false}
-use mathlib.Core.Logic.{⊎-elim}
+use mathlib.Core.Bool.{false}
 use lib.Dec.{ltb, eqb}
 use lib.ListN.{length, getD, drop, List·getD-append}
 use borrow.Author.Tests.{eqb-true}
-use Rattle.meaning.proofs.Tests.{bool-or}
 use Rattle.fields.specs.Deciding.{pick}
 use Rattle.fields.specs.Fields.{kindOf, lineOf, fields}
 use Rattle.fields.specs.Limits.{headSize, gapSize}
-use Rattle.fields.specs.Reading.{wordAt, longAt, fallbackAt, modeAt, taskAt}
-use Rattle.fields.specs.Values.{shortSize}
+use Rattle.fields.specs.Reading.{wordAt, longAt, fallbackAt, modeAt, jitterAt, taskAt}
+use Rattle.fields.specs.Values.{shortSize, shortTaskSize}
 use Rattle.rules.specs.Rules.{unlikeSet, followerCount, wrongLength, badByte, badText, commonRules, textRules, modeRules, rowRules, taskRules}
 use Rattle.sheet.specs.Content.{gapShorter, rowGapRules}
 use Rattle.sheet.specs.Judging.{headRules, ownRules, fieldRules, withField, checked}
@@ -32,12 +30,12 @@ use Rattle.fields.proofs.Deciding.{all-kept}
 use Rattle.sheet.proofs.Numbered.{common-numbered, common-says, row-length}
 use Rattle.written.specs.Judging.{rowSize, oneShorter, entryRules}
 use Rattle.written.specs.Values.{Entry, LabelEntry, ModeEntry, RowEntry, TaskEntry, CutEntry}
-use Rattle.written.specs.Written.{words, modeNumbers, tagOf, contentOf}
+use Rattle.written.specs.Written.{words, modeNumbers, taskNumbers, tagOf, contentOf}
 use Rattle.written.proofs.Alike.{any-alike, checked-alike, checked-both}
-use Rattle.written.proofs.ModeNumbers.{mode-long}
 use Rattle.written.proofs.Here.{byte-here, on-here, word-here}
 use Rattle.written.proofs.Named.{Parted, modes-part, rows-part, tasks-part, Named}
 use Rattle.written.proofs.Sheets.{entrySheet}
+use Rattle.written.proofs.ShortNumbers.{either-way, mode-long, task-long}
 
 -- a field is judged as an entry is, and what is left of the file with the sheet that the entry makes
 abbrev pub JudgedAs : List ℕ → ℕ → ℕ → Kind → Entry → Type 0
@@ -86,25 +84,40 @@ module _ (bytes : List ℕ) (start : ℕ) (rest : List ℕ) where
     fallback-here : fallbackAt bytes start (shortSize mode) ≡ mode .fallback
     unfolding contentOf modeNumbers words shortSize pick
     fallback-here =
-        ⊎-elim
-        (λ (same : eqb (mode .fallback .0) (mode .boundary .0) ≡ true).
+        either-way (eqb (mode .fallback .0) (mode .boundary .0)) _
+        (λ same.
         let whole : mode .fallback .0 ≡ mode .boundary .0 = eqb-true _ _ same in
         rw (same, boundary-here, ← whole) refl)
-        (λ (other : eqb (mode .fallback .0) (mode .boundary .0) ≡ false).
+        (λ other.
         let last : wordAt bytes (start + 4) ≡ mode .fallback .0 = word-here bytes (start + 4) _ _ (on-here bytes start 4 _ (rw other at e)) in
         rw (other, last) refl)
-        (bool-or (eqb (mode .fallback .0) (mode .boundary .0)))
 
     mode-here : modeAt bytes start (shortSize mode) ≡ mode
     mode-here = rw (fallback-here, boundary-here, length-here) refl
 
-  task-here : (task : Task) → drop start bytes ≡ contentOf (TaskEntry task) ++ rest → taskAt bytes start ≡ task
-  unfolding contentOf words
-  task-here task e =
-      let long : wordAt bytes start ≡ task .length .0 = word-here bytes start _ _ e in
-      let period : wordAt bytes (start + 2) ≡ task .period .0 = word-here bytes (start + 2) _ _ (on-here bytes start 2 _ e) in
-      let deadline : wordAt bytes (start + 4) ≡ task .deadline .0 = word-here bytes (start + 4) _ _ (on-here bytes start 4 _ e) in
-      rw (long, period, deadline) refl
+  -- a fixed task's length, period and deadline, and its jitter where the field has one
+  module _ (task : Task) (e : drop start bytes ≡ contentOf (TaskEntry task) ++ rest) where
+    times-here : (wordAt bytes start ≡ task .length .0) × (wordAt bytes (start + 2) ≡ task .period .0) × (wordAt bytes (start + 4) ≡ task .deadline .0)
+    unfolding contentOf taskNumbers words
+    times-here = (
+      word-here bytes start _ _ e,
+      word-here bytes (start + 2) _ _ (on-here bytes start 2 _ e),
+      word-here bytes (start + 4) _ _ (on-here bytes start 4 _ e),
+    )
+
+    jitter-here : jitterAt bytes start (shortTaskSize task) ≡ task .jitter
+    unfolding contentOf taskNumbers words shortTaskSize pick
+    jitter-here =
+        either-way (eqb (task .jitter .0) 0) _
+        (λ none.
+        let ticks : ℕ → Ticks = λ number. record { 0 = number } in
+        rw none (ap ticks (sym (eqb-true _ _ none))))
+        (λ some.
+        let last : wordAt bytes (start + 6) ≡ task .jitter .0 = word-here bytes (start + 6) _ _ (on-here bytes start 6 _ (rw some at e)) in
+        rw (some, last) refl)
+
+    task-here : taskAt bytes start (shortTaskSize task) ≡ task
+    task-here = rw (jitter-here, times-here .0, times-here .1, times-here .2) refl
 
   module _ (speed : Rpm) (deadline : Ticks) (followers : ℕ) (gaps : List ℕ) (e : drop start bytes ≡ contentOf (RowEntry speed deadline followers gaps) ++ rest) where
     -- the row that is read there
@@ -172,6 +185,7 @@ module _ (bytes : List ℕ) (place start : ℕ) (rest : List ℕ) where
       (mode-here bytes start rest mode e))
   entry-judged (RowEntry speed deadline followers gaps) named e sheet ok = row-judged bytes start rest speed deadline followers gaps e place sheet ok
   entry-judged (TaskEntry task) named e sheet ok =
-      ap (λ read. checked place (commonRules 4 (sheet .tally .last) 6 false (sheet .tally .tasks) ++ taskRules read) (ok (withTask sheet read)))
-      (task-here bytes start rest task e)
+      rw (task-long task)
+      (ap (λ read. checked place (commonRules 4 (sheet .tally .last) (shortTaskSize task) false (sheet .tally .tasks) ++ taskRules read) (ok (withTask sheet read)))
+      (task-here bytes start rest task e))
   entry-judged (CutEntry tag) named e sheet ok = cut-judged tag named sheet ok

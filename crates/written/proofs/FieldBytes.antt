@@ -3,17 +3,15 @@ use Prim.Native.Nat.{ℕ, zero, suc, _+_, _-_, _*_, _/_, _%_, _≤_, _<_}
 use native.Mathlib.Numerals.{add-one}
 use native.Mathlib.Omega.{arith}
 use mathlib.Core.Path.{_≡_, _∙_, refl, ap, ap₂}
-use mathlib.Core.Logic.{⊎-elim}
 use mathlib.Core.List.{List, [], _∷_}
 use mathlib.Core.Bool.{Bool, true, false, not}
 use lib.Dec.{ltb, eqb}
 use lib.ListN.{length, getD, take, drop, length-drop}
 use lib.Seq.{drop-cons, length-take-le}
 use borrow.Author.Tests.{ltb-false, eqb-true, eqb-false, eq-eqb, not-false}
-use Rattle.meaning.proofs.Tests.{bool-or}
 use Rattle.fields.specs.Deciding.{Rule, _when_, pick, judgedBy}
 use Rattle.fields.specs.Fields.{lineOf, fields, kindOf, isRefused}
-use Rattle.fields.specs.Limits.{modeSize, fallbackSize, headSize, gapSize}
+use Rattle.fields.specs.Limits.{modeSize, fallbackSize, headSize, gapSize, taskSize, jitterSize}
 use Rattle.fields.specs.Reading.{fieldAt, wordAt, longAt, modeAt, rowAt, taskAt}
 use Rattle.fields.specs.declared.table.Kind.{Kind}
 use Rattle.fields.specs.declared.table.Kind.the-variants.{RefusedTag, LabelField, ModeField, RowField, TaskField, EndField, SkippedField}
@@ -25,10 +23,11 @@ use Rattle.sheet.proofs.Numbered.{long-enough}
 use Rattle.sheet.proofs.Walking.{field-in}
 use Rattle.written.specs.Reading.{wordsAt}
 use Rattle.written.specs.Values.{ModeEntry, TaskEntry}
-use Rattle.written.specs.Written.{words, modeNumbers, field, contentOf}
+use Rattle.written.specs.Written.{words, modeNumbers, taskNumbers, field, contentOf}
 use Rattle.written.specs.ShortForm.{hasShorter}
 use Rattle.written.proofs.Sheets.{rowEntry}
-use Rattle.written.proofs.ShortForms.{shorter-size}
+use Rattle.written.proofs.ShortForms.{longer-size}
+use Rattle.written.proofs.ShortNumbers.{either-way}
 
 -- an answer that is no refusal is what stands behind the rules
 not-refused : {A : Type 0} (refuse : ℕ → A) (ok answer : A) → ((n : ℕ) → refuse n ≡ answer → ⊥) → (rules : List Rule) → judgedBy refuse rules ok ≡ answer → ok ≡ answer
@@ -81,16 +80,17 @@ pub short-enough : (tag size : ℕ) → wrongLength tag size ≡ false → size 
 unfolding wrongLength
 short-enough tag size e = ltb-false _ _ (neither _ _ (neither _ _ e .1) .0)
 
--- and has an even length where its content is numbers; so a mode that has more than its first numbers has its fall-back
+-- and has an even length where its content is numbers; so where the last number may be left out, a field that has more than the others has it
 whole-numbers : (tag size : ℕ) → wrongLength tag size ≡ false → pick (lineOf tag .numbers) (not (eqb (size % 2) 0)) false ≡ false
 unfolding wrongLength
 whole-numbers tag size e = neither _ _ (neither _ _ e .1) .1
 
-with-fallback : (size : ℕ) → wrongLength 2 size ≡ false → (size ≡ modeSize → ⊥) → size ≡ modeSize + fallbackSize
-unfolding lineOf fields pick
-with-fallback size e other =
-    let even : size % 2 ≡ 0 = eqb-true _ _ (not-false _ (whole-numbers 2 size e)) in
-    omega (arith, long-enough 2 size e, short-enough 2 size e)
+with-last : (tag size others : ℕ) → lineOf tag .numbers ≡ true → lineOf tag .shortest ≡ gapSize * others → lineOf tag .longest ≡ gapSize * others + gapSize
+    → wrongLength tag size ≡ false → (size ≡ gapSize * others → ⊥) → size ≡ gapSize * others + gapSize
+unfolding pick
+with-last tag size others numbers short long right more =
+    let even : size % 2 ≡ 0 = eqb-true _ _ (not-false _ (rw numbers at (whole-numbers tag size right))) in
+    omega (arith, long-enough tag size right, short-enough tag size right)
 
 -- two bytes are those of their number
 high-byte : (high low number : ℕ) → low < 256 → high * 256 + low ≡ number → high ≡ number / 256
@@ -148,46 +148,66 @@ module _ (bytes : List ℕ) (fit : Bytes bytes) where
 
   -- the content of a field is that of the entry which is read from it
   module _ (start size : ℕ) (inside : start + size ≤ length bytes) where
-    -- a mode's boundary and job length, and both with its fall-back
+    -- the numbers of a mode without its fall-back, of a mode with it or a fixed task without its jitter, and of a fixed task with it
     two-numbers : start + modeSize ≤ length bytes → take modeSize (drop start bytes) ≡ words (wordAt bytes start ∷ wordAt bytes (start + 2) ∷ [])
     unfolding wordsAt
     two-numbers there = part-words 2 start there
 
-    three-numbers : start + 6 ≤ length bytes → take 6 (drop start bytes) ≡ words (wordAt bytes start ∷ wordAt bytes (start + 2) ∷ wordAt bytes (start + modeSize) ∷ [])
+    three-numbers : start + 6 ≤ length bytes → take 6 (drop start bytes) ≡ words (wordAt bytes start ∷ wordAt bytes (start + 2) ∷ wordAt bytes (start + 4) ∷ [])
     unfolding wordsAt
     three-numbers there =
-        let third : start + 2 + 2 ≡ start + modeSize = omega arith in
+        let third : start + 2 + 2 ≡ start + 4 = omega arith in
         rw (part-words 3 start there, third) refl
+
+    four-numbers : start + 8 ≤ length bytes
+        → take 8 (drop start bytes) ≡ words (wordAt bytes start ∷ wordAt bytes (start + 2) ∷ wordAt bytes (start + 4) ∷ wordAt bytes (start + taskSize) ∷ [])
+    unfolding wordsAt
+    four-numbers there =
+        let third : start + 2 + 2 ≡ start + 4 = omega arith in
+        let fourth : start + 4 + 2 ≡ start + taskSize = omega arith in
+        rw (part-words 4 start there, third, fourth) refl
 
     -- a mode's content is that of its entry where no shorter field says the same
     pub mode-content : wrongLength 2 size ≡ false → hasShorter bytes ModeField start size ≡ false → take size (drop start bytes) ≡ contentOf (ModeEntry (modeAt bytes start size))
-    unfolding contentOf modeNumbers pick
+    unfolding contentOf modeNumbers lineOf fields pick
     mode-content right needed =
-        ⊎-elim
-        (λ (e : eqb size modeSize ≡ true).
+        either-way (eqb size modeSize) _
+        (λ e.
         let four : size ≡ modeSize = eqb-true _ _ e in
         let same : eqb (wordAt bytes start) (wordAt bytes start) ≡ true = eq-eqb (wordAt bytes start) (wordAt bytes start) refl in
         rw (four, same) (two-numbers (omega arith)))
-        (λ (e : eqb size modeSize ≡ false).
-        let six : size ≡ modeSize + fallbackSize = with-fallback size right (eqb-false _ _ e) in
+        (λ e.
+        let six : size ≡ modeSize + fallbackSize = with-last 2 size 2 refl refl refl right (eqb-false _ _ e) in
         let other : eqb (wordAt bytes (start + modeSize)) (wordAt bytes start) ≡ false = rw six at needed in
         rw (six, other) (three-numbers (omega arith)))
-        (bool-or (eqb size modeSize))
 
     -- and else its first two numbers are
     pub mode-shortened : hasShorter bytes ModeField start size ≡ true → take modeSize (drop start bytes) ≡ contentOf (ModeEntry (modeAt bytes start size))
     unfolding contentOf modeNumbers pick
     mode-shortened has =
-        let six : size ≡ modeSize + fallbackSize = shorter-size bytes ModeField start size has in
+        let six : size ≡ modeSize + fallbackSize = longer-size size (modeSize + fallbackSize) (eqb (wordAt bytes (start + modeSize)) (wordAt bytes start)) has in
         let same : eqb (wordAt bytes (start + modeSize)) (wordAt bytes start) ≡ true = rw six at has in
         rw (six, same) (two-numbers (omega arith))
 
-    pub task-content : wrongLength 4 size ≡ false → take size (drop start bytes) ≡ contentOf (TaskEntry (taskAt bytes start))
-    unfolding contentOf wordsAt lineOf fields
-    task-content right =
-        let six : size ≡ gapSize * 3 = omega (arith, long-enough 4 size right, short-enough 4 size right) in
-        let third : start + 2 + 2 ≡ start + 4 = omega arith in
-        rw (six, part-words 3 start (omega arith), third) refl
+    -- so it is with a fixed task's content, and else with its first three numbers
+    pub task-content : wrongLength 4 size ≡ false → hasShorter bytes TaskField start size ≡ false → take size (drop start bytes) ≡ contentOf (TaskEntry (taskAt bytes start size))
+    unfolding contentOf taskNumbers lineOf fields pick
+    task-content right needed =
+        either-way (eqb size taskSize) _
+        (λ e.
+        let six : size ≡ taskSize = eqb-true _ _ e in
+        rw six (three-numbers (omega arith)))
+        (λ e.
+        let eight : size ≡ taskSize + jitterSize = with-last 4 size 3 refl refl refl right (eqb-false _ _ e) in
+        let other : eqb (wordAt bytes (start + taskSize)) 0 ≡ false = rw eight at needed in
+        rw (eight, other) (four-numbers (omega arith)))
+
+    pub task-shortened : hasShorter bytes TaskField start size ≡ true → take taskSize (drop start bytes) ≡ contentOf (TaskEntry (taskAt bytes start size))
+    unfolding contentOf taskNumbers pick
+    task-shortened has =
+        let eight : size ≡ taskSize + jitterSize = longer-size size (taskSize + jitterSize) (eqb (wordAt bytes (start + taskSize)) 0) has in
+        let none : eqb (wordAt bytes (start + taskSize)) 0 ≡ true = rw eight at has in
+        rw (eight, none) (three-numbers (omega arith))
 
     pub row-content : size ≡ headSize + gapSize * followerCount (rowAt bytes start .followers) → take size (drop start bytes) ≡ contentOf (rowEntry bytes (rowAt bytes start))
     unfolding contentOf wordsAt

@@ -9,10 +9,12 @@ use lib.ListN.{length, take, drop}
 use borrow.Author.Tests.{eqb-true, eq-eqb, not-false}
 use Rattle.fields.specs.Deciding.{pick, firstBroken}
 use Rattle.fields.specs.Fields.{lineOf, fields}
+use Rattle.fields.specs.Values.{shortTaskSize}
 use Rattle.rules.specs.Rules.{followerCount, lastHangs, commonRules, rowRules}
 use Rattle.fields.specs.declared.units.Rpm.{Rpm}
 use Rattle.fields.specs.declared.units.Ticks.{Ticks}
 use Rattle.fields.specs.declared.values.Tally.{Tally}
+use Rattle.fields.specs.declared.values.Task.{Task}
 use Rattle.fields.proofs.Deciding.{Kept, both-kept}
 use Rattle.sheet.proofs.KeptRules.{order-kept}
 use Rattle.sheet.proofs.Numbered.{common-says}
@@ -34,11 +36,11 @@ modes-alike (boundary ∷ boundaries) (l ∷ lengths) (fallback ∷ fallbacks) w
     let rest = modes-alike boundaries lengths fallbacks (whole .1) in
     (omega (arith, rest), omega (arith, rest))
 
--- one mode has at most one band
-one-band : (same : Bool) → pick {A = ℕ} same 0 1 ≤ 1
+-- one mode has at most one band, and one fixed task at most one jitter
+pub one-most : (none : Bool) → pick {A = ℕ} none 0 1 ≤ 1
 unfolding pick
-one-band true = omega arith
-one-band false = omega arith
+one-most true = omega arith
+one-most false = omega arith
 
 -- the mode before a row has none
 row-plain : (tally : Tally) (speed : Rpm) (deadline : Ticks) (followers : ℕ) (gaps : List ℕ) → Kept (entryRules tally (RowEntry speed deadline followers gaps))
@@ -67,7 +69,7 @@ bands-before tally speed deadline followers gaps more (boundary ∷ []) (l ∷ [
 bands-before tally speed deadline followers gaps more (boundary ∷ next ∷ boundaries) (l ∷ lengths) (fallback ∷ fallbacks) kept whole =
     let entry = ModeEntry (record { boundary = record { 0 = boundary }; length = record { 0 = l }; fallback = record { 0 = fallback } }) in
     let rest = bands-before (countEntry tally entry) speed deadline followers gaps more (next ∷ boundaries) lengths fallbacks (both-kept (entryRules tally entry) _ kept .1) (whole .1) in
-    omega (arith, one-band (eqb fallback boundary), rest)
+    omega (arith, one-most (eqb fallback boundary), rest)
 
 -- the last tag behind label and modes
 modes-last : (tally : Tally) (boundaries lengths fallbacks : List ℕ) → Whole (modeEntries boundaries lengths fallbacks) → tally .last ≤ 2
@@ -83,23 +85,25 @@ modes-last tally (boundary ∷ boundaries) (l ∷ lengths) (fallback ∷ fallbac
     boundaries lengths fallbacks (whole .1) (omega arith)
 
 -- fixed tasks and the end field stand behind a row
-rows-first : (tally : Tally) (lengths periods deadlines : List ℕ) → Whole (taskEntries lengths periods deadlines) → tally .last ≤ 2
-    → Kept (entriesRules tally (taskEntries lengths periods deadlines)) → 3 ≤ countEntries tally (taskEntries lengths periods deadlines) .last → ⊥
+rows-first : (tally : Tally) (lengths periods deadlines jitters : List ℕ) → Whole (taskEntries lengths periods deadlines jitters) → tally .last ≤ 2
+    → Kept (entriesRules tally (taskEntries lengths periods deadlines jitters)) → 3 ≤ countEntries tally (taskEntries lengths periods deadlines jitters) .last → ⊥
 unfolding taskEntries entriesRules entryRules countEntries lineOf fields
-rows-first tally [] [] [] whole low kept high = omega arith
-rows-first tally [] [] (deadline ∷ deadlines) whole low kept high = absurd (whole .0)
-rows-first tally [] (period ∷ periods) deadlines whole low kept high = absurd (whole .0)
-rows-first tally (l ∷ lengths) [] deadlines whole low kept high = absurd (whole .0)
-rows-first tally (l ∷ lengths) (period ∷ periods) [] whole low kept high = absurd (whole .0)
-rows-first tally (l ∷ lengths) (period ∷ periods) (deadline ∷ deadlines) whole low kept high =
-    let task = TaskEntry (record { length = record { 0 = l }; period = record { 0 = period }; deadline = record { 0 = deadline } }) in
-    let own = both-kept (entryRules tally task) _ kept .0 in
-    let order = common-says _ _ _ _ _ (both-kept (commonRules 4 (tally .last) 6 false (tally .tasks)) _ own .0) .0 in
+rows-first tally [] [] [] [] whole low kept high = omega arith
+rows-first tally [] [] [] (jitter ∷ jitters) whole low kept high = absurd (whole .0)
+rows-first tally [] [] (deadline ∷ deadlines) jitters whole low kept high = absurd (whole .0)
+rows-first tally [] (period ∷ periods) deadlines jitters whole low kept high = absurd (whole .0)
+rows-first tally (l ∷ lengths) [] deadlines jitters whole low kept high = absurd (whole .0)
+rows-first tally (l ∷ lengths) (period ∷ periods) [] jitters whole low kept high = absurd (whole .0)
+rows-first tally (l ∷ lengths) (period ∷ periods) (deadline ∷ deadlines) [] whole low kept high = absurd (whole .0)
+rows-first tally (l ∷ lengths) (period ∷ periods) (deadline ∷ deadlines) (jitter ∷ jitters) whole low kept high =
+    let task : Task = record { length = record { 0 = l }; period = record { 0 = period }; deadline = record { 0 = deadline }; jitter = record { 0 = jitter } } in
+    let own = both-kept (entryRules tally (TaskEntry task)) _ kept .0 in
+    let order = common-says _ _ _ _ _ (both-kept (commonRules 4 (tally .last) (shortTaskSize task) false (tally .tasks)) _ own .0) .0 in
     omega (arith, order-kept (tally .last) 4 3 order refl (omega arith))
 
 module _ (values : Values) (none : firstBroken (valuesRules values) ≡ 0) (whole : Whole (modeEntries (values .boundaries) (values .lengths) (values .fallbacks)))
     (rows-whole : Whole (rowEntries (values .speeds) (values .deadlines) (values .sets) (values .gaps)))
-    (tasks-whole : Whole (taskEntries (values .taskLengths) (values .taskPeriods) (values .taskDeadlines))) where
+    (tasks-whole : Whole (taskEntries (values .taskLengths) (values .taskPeriods) (values .taskDeadlines) (values .taskJitters))) where
   abbrev modes : List Entry
   modes = modeEntries (values .boundaries) (values .lengths) (values .fallbacks)
 
@@ -107,7 +111,7 @@ module _ (values : Values) (none : firstBroken (valuesRules values) ≡ 0) (whol
   rows = rowEntries (values .speeds) (values .deadlines) (values .sets) (values .gaps)
 
   abbrev tasks : List Entry
-  tasks = taskEntries (values .taskLengths) (values .taskPeriods) (values .taskDeadlines)
+  tasks = taskEntries (values .taskLengths) (values .taskPeriods) (values .taskDeadlines) (values .taskJitters)
 
   -- the tally behind the label, and behind the modes
   abbrev labelled : Tally
@@ -130,7 +134,7 @@ module _ (values : Values) (none : firstBroken (valuesRules values) ≡ 0) (whol
   rows-some : rows ≡ [] → ⊥
   unfolding countEntry
   rows-some no-rows =
-      rows-first before (values .taskLengths) (values .taskPeriods) (values .taskDeadlines) tasks-whole
+      rows-first before (values .taskLengths) (values .taskPeriods) (values .taskDeadlines) (values .taskJitters) tasks-whole
       (modes-last labelled (values .boundaries) (values .lengths) (values .fallbacks) whole (omega arith))
       (rw no-rows at from-rows) (rw no-rows at ended)
 

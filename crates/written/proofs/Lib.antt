@@ -4,7 +4,7 @@ pub mod Fields
 pub mod From
 pub mod Alike
 pub mod Named
-pub mod ModeNumbers
+pub mod ShortNumbers
 pub mod EntryFields
 pub mod Walked
 pub mod EntriesKept

@@ -70,19 +70,21 @@ rows-named (speed ∷ speeds) [] sets gaps = (rows-part, tt)
 rows-named (speed ∷ speeds) (deadline ∷ deadlines) [] gaps = (rows-part, tt)
 rows-named (speed ∷ speeds) (deadline ∷ deadlines) (followers ∷ sets) gaps = (tt, rows-named speeds deadlines sets (drop (followerCount followers) gaps))
 
-tasks-named : (lengths periods deadlines : List ℕ) → AllNamed (taskEntries lengths periods deadlines)
+tasks-named : (lengths periods deadlines jitters : List ℕ) → AllNamed (taskEntries lengths periods deadlines jitters)
 unfolding taskEntries
-tasks-named [] [] [] = tt
-tasks-named [] [] (deadline ∷ deadlines) = (tasks-part, tt)
-tasks-named [] (period ∷ periods) deadlines = (tasks-part, tt)
-tasks-named (length ∷ lengths) [] deadlines = (tasks-part, tt)
-tasks-named (length ∷ lengths) (period ∷ periods) [] = (tasks-part, tt)
-tasks-named (length ∷ lengths) (period ∷ periods) (deadline ∷ deadlines) = (tt, tasks-named lengths periods deadlines)
+tasks-named [] [] [] [] = tt
+tasks-named [] [] [] (jitter ∷ jitters) = (tasks-part, tt)
+tasks-named [] [] (deadline ∷ deadlines) jitters = (tasks-part, tt)
+tasks-named [] (period ∷ periods) deadlines jitters = (tasks-part, tt)
+tasks-named (length ∷ lengths) [] deadlines jitters = (tasks-part, tt)
+tasks-named (length ∷ lengths) (period ∷ periods) [] jitters = (tasks-part, tt)
+tasks-named (length ∷ lengths) (period ∷ periods) (deadline ∷ deadlines) [] = (tasks-part, tt)
+tasks-named (length ∷ lengths) (period ∷ periods) (deadline ∷ deadlines) (jitter ∷ jitters) = (tt, tasks-named lengths periods deadlines jitters)
 
 pub entries-named : (values : Values) → AllNamed (entries values)
 unfolding entries
 entries-named values = (
   tt,
   both-named (modeEntries (values .boundaries) (values .lengths) (values .fallbacks)) _ (modes-named _ _ _)
-      (both-named (rowEntries (values .speeds) (values .deadlines) (values .sets) (values .gaps)) _ (rows-named _ _ _ _) (tasks-named _ _ _)),
+      (both-named (rowEntries (values .speeds) (values .deadlines) (values .sets) (values .gaps)) _ (rows-named _ _ _ _) (tasks-named _ _ _ _)),
 )

@@ -10,7 +10,7 @@ use lib.ListN.{length, take, drop}
 use lib.Seq.{take-append-seam}
 use Rattle.fields.specs.Deciding.{firstBroken}
 use Rattle.fields.specs.Limits.{headSize}
-use Rattle.fields.specs.Values.{emptySheet, shortSize}
+use Rattle.fields.specs.Values.{emptySheet, shortSize, shortTaskSize}
 use Rattle.rules.specs.Rules.{followerCount, unlikeSet, commonRules}
 use Rattle.fields.specs.declared.values.Sheet.{Sheet}
 use Rattle.fields.proofs.Deciding.{Kept, both-kept}
@@ -43,7 +43,7 @@ entry-read bytes at sheet (RowEntry speed deadline followers gaps) rest here ord
     rw (← many) (words-here bytes gaps rest (at + 3 + headSize) (on-here bytes (at + 3) headSize _ (content-here bytes at 3 (contentOf (RowEntry speed deadline followers gaps)) rest here))) in
     rw same at (with-row bytes sheet order size _ (record { speed = speed; deadline = deadline; followers = followers; gaps = at + 3 + headSize }) common)
 entry-read bytes at sheet (TaskEntry task) rest here order uncut kept =
-    with-task bytes sheet order 6 false task (both-kept (commonRules 4 (sheet .tally .last) 6 false (sheet .tally .tasks)) _ kept .0)
+    with-task bytes sheet order (shortTaskSize task) false task (both-kept (commonRules 4 (sheet .tally .last) (shortTaskSize task) false (sheet .tally .tasks)) _ kept .0)
 entry-read bytes at sheet (CutEntry tag) rest here order uncut kept = absurd uncut
 
 -- the fields of entries stand at a place, none of which is cut or breaks a rule

@@ -12,8 +12,8 @@ use lib.Seq.{take-add, take-all}
 use borrow.Author.Tests.{eqb-true, not-false}
 use Rattle.fields.specs.Deciding.{pick, _or_}
 use Rattle.fields.specs.Fields.{isEnd}
-use Rattle.fields.specs.Limits.{modeSize, fallbackSize}
-use Rattle.fields.specs.Reading.{fieldAt}
+use Rattle.fields.specs.Limits.{modeSize, fallbackSize, taskSize, jitterSize}
+use Rattle.fields.specs.Reading.{wordAt, fieldAt}
 use Rattle.fields.specs.declared.table.Kind.{Kind}
 use Rattle.fields.specs.declared.table.Kind.the-variants.{RefusedTag, LabelField, ModeField, RowField, TaskField, EndField, SkippedField}
 use Rattle.fields.specs.declared.reader.Step.{Step}
@@ -24,8 +24,7 @@ use Rattle.sheet.specs.declared.Answer.the-variants.{Accepted}
 use Rattle.sheet.specs.declared.Judged.{Judged}
 use Rattle.sheet.proofs.Keeping.{Keeps, judged-keeps}
 use Rattle.sheet.proofs.Walking.{field-in}
-use Rattle.written.specs.ShortForm.{isSkipped, hasShorter, shortField, shortStep, shortFrom, shortForm, oneStep, oneFrom, hasSkipped, takesShorter}
-use Rattle.written.specs.Written.{field}
+use Rattle.written.specs.ShortForm.{isSkipped, hasShorter, shorterField, shortField, shortStep, shortFrom, shortForm, oneStep, oneFrom, hasSkipped, takesShorter}
 
 module _ {A : Type 0} (refused : A) (on : ℕ → Kind → ℕ → ℕ → ℕ → A → A) where
   -- what is said of the field at a place, where `go` says it of the fields behind
@@ -187,15 +186,25 @@ unfolding pick
 either true b e = inl refl
 either false b e = inr e
 
--- only a mode with its fall-back has a shorter form
-pub shorter-size : (bytes : List ℕ) (kind : Kind) (start size : ℕ) → hasShorter bytes kind start size ≡ true → size ≡ modeSize + fallbackSize
-shorter-size bytes RefusedTag start size e = absurd (true≢false (sym e))
-shorter-size bytes LabelField start size e = absurd (true≢false (sym e))
-shorter-size bytes ModeField start size e = eqb-true _ _ (chosen (eqb size (modeSize + fallbackSize)) _ e)
-shorter-size bytes RowField start size e = absurd (true≢false (sym e))
-shorter-size bytes TaskField start size e = absurd (true≢false (sym e))
-shorter-size bytes EndField start size e = absurd (true≢false (sym e))
-shorter-size bytes SkippedField start size e = absurd (true≢false (sym e))
+-- only a field with its last number has a shorter form
+pub longer-size : (size long : ℕ) (same : Bool) → pick (eqb size long) same false ≡ true → size ≡ long
+longer-size size long same e = eqb-true _ _ (chosen (eqb size long) same e)
+
+-- a part has no more bytes than are taken
+taken-most : (n : ℕ) (l : List ℕ) → length (take n l) ≤ n
+taken-most n l = simp length-take (omega arith)
+
+-- the shorter form has fewer bytes than the field
+shorter-long : (bytes : List ℕ) (kind : Kind) (start size : ℕ) → hasShorter bytes kind start size ≡ true → length (shorterField bytes kind start) < 3 + size
+shorter-long bytes RefusedTag start size e = absurd (true≢false (sym e))
+shorter-long bytes LabelField start size e = absurd (true≢false (sym e))
+shorter-long bytes ModeField start size e =
+    omega (arith, longer-size size (modeSize + fallbackSize) (eqb (wordAt bytes (start + modeSize)) (wordAt bytes start)) e, taken-most modeSize (drop start bytes))
+shorter-long bytes RowField start size e = absurd (true≢false (sym e))
+shorter-long bytes TaskField start size e =
+    omega (arith, longer-size size (taskSize + jitterSize) (eqb (wordAt bytes (start + taskSize)) 0) e, taken-most taskSize (drop start bytes))
+shorter-long bytes EndField start size e = absurd (true≢false (sym e))
+shorter-long bytes SkippedField start size e = absurd (true≢false (sym e))
 
 module _ (bytes : List ℕ) where
   -- a field that is not kept as it is
@@ -205,17 +214,15 @@ module _ (bytes : List ℕ) where
   -- a field in its short form has no more bytes than the field, and fewer where it is changed
   module _ (at start size next : ℕ) (kind : Kind) (here : fieldAt bytes at ≡ Field kind start size next) where
     field-long : (skips has : Bool) → hasShorter bytes kind start size ≡ has
-        → let own = pick skips [] (pick has (field 2 (take modeSize (drop start bytes))) (take (next - at) (drop at bytes))) in
+        → let own = pick skips [] (pick has (shorterField bytes kind start) (take (next - at) (drop at bytes))) in
         (length own + at ≤ next) × ((skips or has) ≡ true → length own + at < next)
     unfolding pick
     field-long true has e = (omega (arith, field-in bytes at kind start size next here), λ _. omega (arith, field-in bytes at kind start size next here))
     field-long false true e =
-        let six = shorter-size bytes kind start size e in
-        let four : length (take modeSize (drop start bytes)) ≤ modeSize = simp length-take (omega arith) in
-        (omega (arith, field-in bytes at kind start size next here), λ _. omega (arith, field-in bytes at kind start size next here))
+        let fewer = shorter-long bytes kind start size e in
+        (omega (arith, fewer, field-in bytes at kind start size next here), λ _. omega (arith, fewer, field-in bytes at kind start size next here))
     field-long false false e =
-        let whole : length (take (next - at) (drop at bytes)) ≤ next - at = simp length-take (omega arith) in
-        (omega (arith, field-in bytes at kind start size next here), λ none. absurd (true≢false (sym none)))
+        (omega (arith, taken-most (next - at) (drop at bytes), field-in bytes at kind start size next here), λ none. absurd (true≢false (sym none)))
 
   module _ (test : Test) (changes : (kind : Kind) (start size : ℕ) → test kind start size ≡ true → changed kind start size ≡ true) where
     -- so much is left from a place on

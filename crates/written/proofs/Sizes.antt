@@ -13,14 +13,15 @@ use Rattle.sets.proofs.Bits.{all-below}
 use Rattle.sets.proofs.Search.{next-none-all}
 use Rattle.meaning.proofs.Tests.{lt-or}
 use Rattle.fields.specs.Deciding.{pick, firstBroken}
-use Rattle.fields.specs.Values.{emptySheet, shortSize}
-use Rattle.fields.specs.Limits.{modeLimit, rowLimit, taskLimit, labelLimit, modeSize, fallbackSize, headSize, gapSize}
+use Rattle.fields.specs.Values.{emptySheet, shortSize, shortTaskSize}
+use Rattle.fields.specs.Limits.{modeLimit, rowLimit, taskLimit, labelLimit, modeSize, fallbackSize, headSize, gapSize, taskSize, jitterSize}
 use Rattle.rules.specs.Rules.{followerCount, unknownIn}
 use Rattle.fields.specs.declared.values.Mode.{Mode}
+use Rattle.fields.specs.declared.values.Task.{Task}
 use Rattle.fields.specs.declared.values.Tally.{Tally}
 use Rattle.fields.proofs.Deciding.{Kept, both-kept, any-false}
 use Rattle.sheet.proofs.KeptRules.{nothing}
-use Rattle.written.specs.Judging.{bandCount, sheetSize, noTally, entryRules, countEntry, entriesRules, countEntries, unknownAmong, valuesRules}
+use Rattle.written.specs.Judging.{bandCount, jitterCount, sheetSize, noTally, entryRules, countEntry, entriesRules, countEntries, unknownAmong, valuesRules}
 use Rattle.written.specs.Reading.{valuesIn}
 use Rattle.written.specs.Values.{Values, Entry, LabelEntry, ModeEntry, RowEntry, TaskEntry, CutEntry, modeEntries, rowEntries, taskEntries, entries}
 use Rattle.written.specs.Written.{words, tagOf, contentOf, fieldOf, fieldsOf, field, written}
@@ -28,11 +29,11 @@ use Rattle.written.proofs.Columns.{Whole, entries-columns}
 use Rattle.written.proofs.Entered.{InOrder}
 use Rattle.written.proofs.EntriesKept.{label-says, row-says, entries-kept, rules-both, kept-written, end-written}
 use Rattle.written.proofs.EntryFields.{words-length}
-use Rattle.written.proofs.LastMode.{modes-alike, last-plain}
-use Rattle.written.proofs.ModeNumbers.{mode-long, band-size}
+use Rattle.written.proofs.LastMode.{modes-alike, one-most, last-plain}
 use Rattle.written.proofs.Fields.{fields-both}
 use Rattle.written.proofs.ReadBack.{read-in-order, values-read}
 use Rattle.written.proofs.Sheets.{readSheet, entries-tally}
+use Rattle.written.proofs.ShortNumbers.{mode-long, band-size, task-long, jitter-size}
 
 -- entries one behind the other: none of either is cut
 whole-both : (first behind : List Entry) → Whole (first ++ behind) → Whole first × Whole behind
@@ -56,14 +57,27 @@ modes-size (boundary ∷ boundaries) (l ∷ lengths) (fallback ∷ fallbacks) wh
     let own : shortSize mode ≡ modeSize + fallbackSize * pick (eqb fallback boundary) 0 1 = band-size mode in
     omega (arith, length-append (contentOf (ModeEntry mode)) more, mode-long mode, own, modes-size boundaries lengths fallbacks (whole .1))
 
-tasks-size : (lengths periods deadlines : List ℕ) → Whole (taskEntries lengths periods deadlines) → length (fieldsOf (taskEntries lengths periods deadlines)) ≡ 9 * length lengths
-unfolding taskEntries fieldsOf tagOf contentOf words
-tasks-size [] [] [] whole = refl
-tasks-size [] [] (deadline ∷ deadlines) whole = absurd (whole .0)
-tasks-size [] (period ∷ periods) deadlines whole = absurd (whole .0)
-tasks-size (l ∷ lengths) [] deadlines whole = absurd (whole .0)
-tasks-size (l ∷ lengths) (period ∷ periods) [] whole = absurd (whole .0)
-tasks-size (l ∷ lengths) (period ∷ periods) (deadline ∷ deadlines) whole = omega (arith, tasks-size lengths periods deadlines (whole .1))
+tasks-size : (lengths periods deadlines jitters : List ℕ) → Whole (taskEntries lengths periods deadlines jitters)
+    → length (fieldsOf (taskEntries lengths periods deadlines jitters)) ≡ (3 + taskSize) * length lengths + jitterSize * jitterCount jitters
+unfolding taskEntries fieldsOf jitterCount tagOf
+tasks-size [] [] [] [] whole = refl
+tasks-size [] [] [] (jitter ∷ jitters) whole = absurd (whole .0)
+tasks-size [] [] (deadline ∷ deadlines) jitters whole = absurd (whole .0)
+tasks-size [] (period ∷ periods) deadlines jitters whole = absurd (whole .0)
+tasks-size (l ∷ lengths) [] deadlines jitters whole = absurd (whole .0)
+tasks-size (l ∷ lengths) (period ∷ periods) [] jitters whole = absurd (whole .0)
+tasks-size (l ∷ lengths) (period ∷ periods) (deadline ∷ deadlines) [] whole = absurd (whole .0)
+tasks-size (l ∷ lengths) (period ∷ periods) (deadline ∷ deadlines) (jitter ∷ jitters) whole =
+    let task : Task = record { length = record { 0 = l }; period = record { 0 = period }; deadline = record { 0 = deadline }; jitter = record { 0 = jitter } } in
+    let more = fieldsOf (taskEntries lengths periods deadlines jitters) in
+    let own : shortTaskSize task ≡ taskSize + jitterSize * pick (eqb jitter 0) 0 1 = jitter-size task in
+    omega (arith, length-append (contentOf (TaskEntry task)) more, task-long task, own, tasks-size lengths periods deadlines jitters (whole .1))
+
+-- no more tasks have a jitter than there are
+jitters-fit : (jitters : List ℕ) → jitterCount jitters ≤ length jitters
+unfolding jitterCount
+jitters-fit [] = omega arith
+jitters-fit (jitter ∷ jitters) = omega (arith, one-most (eqb jitter 0), jitters-fit jitters)
 
 rows-size : (speeds deadlines sets gaps : List ℕ) → Whole (rowEntries speeds deadlines sets gaps)
     → length (fieldsOf (rowEntries speeds deadlines sets gaps)) ≡ (3 + headSize) * length speeds + gapSize * length gaps
@@ -130,10 +144,10 @@ column-most number held count column same =
 abbrev pub sizeOf : Values → ℕ
 sizeOf values =
     sheetSize (length (values .label)) (length (values .boundaries)) (bandCount (values .boundaries) (values .fallbacks))
-    (length (values .speeds)) (length (values .gaps)) (length (values .taskLengths))
+    (length (values .speeds)) (length (values .gaps)) (length (values .taskLengths)) (jitterCount (values .taskJitters))
 
 abbrev pub mostWritten : ℕ
-mostWritten = sheetSize labelLimit modeLimit (modeLimit - 1) rowLimit (rowLimit * rowLimit) taskLimit
+mostWritten = sheetSize labelLimit modeLimit (modeLimit - 1) rowLimit (rowLimit * rowLimit) taskLimit taskLimit
 
 module _ (values : Values) (none : firstBroken (valuesRules values) ≡ 0) where
   -- no field breaks a rule, and the sheet that is read has these values
@@ -162,6 +176,16 @@ module _ (values : Values) (none : firstBroken (valuesRules values) ≡ 0) where
   unfolding valuesIn
   tasks-most = omega (arith, order .task-room, column-most (λ task. task .length .0) (readSheet values .tasks) (readSheet values .tally .tasks) (values .taskLengths) (ap (λ read. read .taskLengths) same))
 
+  pub jitters-most : jitterCount (values .taskJitters) ≤ taskLimit
+  unfolding valuesIn
+  jitters-most =
+      omega (
+        arith,
+        jitters-fit (values .taskJitters),
+        order .task-room,
+        column-most (λ task. task .jitter .0) (readSheet values .tasks) (readSheet values .tally .tasks) (values .taskJitters) (ap (λ read. read .taskJitters) same),
+      )
+
   pub label-most : length (values .label) ≤ labelLimit
   unfolding entries entriesRules
   label-most = label-says noTally (values .label) (both-kept (entryRules noTally (LabelEntry (values .label))) _ kept .0)
@@ -177,7 +201,7 @@ module _ (values : Values) (none : firstBroken (valuesRules values) ≡ 0) where
   rows = rowEntries (values .speeds) (values .deadlines) (values .sets) (values .gaps)
 
   abbrev tasks : List Entry
-  tasks = taskEntries (values .taskLengths) (values .taskPeriods) (values .taskDeadlines)
+  tasks = taskEntries (values .taskLengths) (values .taskPeriods) (values .taskDeadlines) (values .taskJitters)
 
   each-whole : Whole modes × Whole rows × Whole tasks
   unfolding entries
@@ -221,12 +245,12 @@ module _ (values : Values) (none : firstBroken (valuesRules values) ≡ 0) where
         length-append second third,
         modes-size (values .boundaries) (values .lengths) (values .fallbacks) (each-whole .0),
         rows-size (values .speeds) (values .deadlines) (values .sets) (values .gaps) (each-whole .1),
-        tasks-size (values .taskLengths) (values .taskPeriods) (values .taskDeadlines) (each-whole .2),
+        tasks-size (values .taskLengths) (values .taskPeriods) (values .taskDeadlines) (values .taskJitters) (each-whole .2),
       )
 
   -- and so never more than this
   pub written-most : length (written values) ≤ mostWritten
-  written-most = omega (arith, size-written, label-most, modes-most, bands-most, rows-most, gaps-most, tasks-most)
+  written-most = omega (arith, size-written, label-most, modes-most, bands-most, rows-most, gaps-most, tasks-most, jitters-most)
 
   -- rule 9: a set of as many bits as code gives it names only rows that a sheet can have
   pub sets-narrow : ((k : ℕ) → getD (values .sets) k 0 < 2 ^ width) → (k : ℕ) → getD (values .sets) k 0 < 2 ^ rowLimit

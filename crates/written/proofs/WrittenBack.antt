@@ -4,7 +4,7 @@ use native.Mathlib.Omega.{arith}
 use mathlib.Core.Path.{_≡_, _∙_, refl, sym, ap, ap₂}
 use mathlib.Core.List.{List, [], _∷_, _++_, append-assoc, append-nil}
 use mathlib.Core.Logic.{⊎-elim}
-use mathlib.Core.Bool.{true, false}
+use mathlib.Core.Bool.{true, false, true≢false}
 use lib.ListN.{length, take, drop}
 use Rattle.meaning.proofs.Tests.{bool-or}
 use Rattle.fields.specs.Deciding.{pick}
@@ -15,7 +15,7 @@ use Rattle.rules.specs.Rules.{outOfOrder, wrongLength}
 use Rattle.sheet.specs.Judging.{refusal, judged}
 use Rattle.sheet.specs.Proper.{Bytes}
 use Rattle.fields.specs.declared.table.Kind.{Kind}
-use Rattle.fields.specs.declared.table.Kind.the-variants.{ModeField, EndField}
+use Rattle.fields.specs.declared.table.Kind.the-variants.{EndField}
 use Rattle.fields.specs.declared.reader.Step.the-variants.{Field}
 use Rattle.fields.specs.declared.values.Sheet.{Sheet}
 use Rattle.sheet.specs.declared.Answer.the-variants.{Accepted}
@@ -24,15 +24,16 @@ use Rattle.sheet.proofs.Keeping.{Keeps, judged-keeps}
 use Rattle.sheet.proofs.Numbered.{common-says, row-length}
 use Rattle.sheet.proofs.Walking.{field-in}
 use Rattle.written.specs.Reading.{valuesIn, valuesOf}
-use Rattle.written.specs.ShortForm.{isSkipped, hasShorter, shortField, shortForm, hasSkipped, takesShorter}
+use Rattle.written.specs.ShortForm.{isSkipped, hasShorter, shorterField, shortField, shortForm, hasSkipped, takesShorter}
 use Rattle.written.specs.Values.{Entry, LabelEntry, ModeEntry, TaskEntry}
 use Rattle.written.specs.Written.{field, tagOf, contentOf, fieldOf, fieldsOf, written}
 use Rattle.written.proofs.Columns.{values-entries}
 use Rattle.written.proofs.Entered.{InOrder, Entered, empty-in-order, none-entered, label-before, with-label, with-mode, with-row, with-task}
-use Rattle.written.proofs.FieldBytes.{tagFor, Known, field-bytes, short-enough, mode-content, mode-shortened, row-content, task-content}
+use Rattle.written.proofs.FieldBytes.{tagFor, Known, field-bytes, short-enough, mode-content, mode-shortened, row-content, task-content, task-shortened}
 use Rattle.written.proofs.Fields.{fields-both}
 use Rattle.written.proofs.Sheets.{rowEntry, entriesIn}
 use Rattle.written.proofs.ShortForms.{shortAfter, short-all, short-field, short-itself, fewer-skipped, fewer-shorter}
+use Rattle.written.proofs.ShortNumbers.{either-way}
 
 module _ (bytes : List ℕ) (fit : Bytes bytes) where
   -- the short form is the fields of the sheet so far, and what it has from the place on
@@ -57,12 +58,15 @@ module _ (bytes : List ℕ) (fit : Bytes bytes) where
     inside : start + size ≤ length bytes
     inside = omega (arith, field-in bytes at kind start size next here)
 
-    -- a field of a known kind, whose tag and content are those of an entry
-    entry-field : (entry : Entry) → isSkipped kind ≡ false → hasShorter bytes kind start size ≡ false → Known kind → tagFor kind ≡ tagOf entry
-        → take size (drop start bytes) ≡ contentOf entry → shortField bytes at kind start size next ≡ fieldOf entry
+    -- a field of a known kind, in the shorter form where two say the same, whose tag and content are those of an entry
+    entry-field : (entry : Entry) → isSkipped kind ≡ false → Known kind → tagFor kind ≡ tagOf entry
+        → (hasShorter bytes kind start size ≡ true → shorterField bytes kind start ≡ fieldOf entry)
+        → (hasShorter bytes kind start size ≡ false → take size (drop start bytes) ≡ contentOf entry) → shortField bytes at kind start size next ≡ fieldOf entry
     unfolding pick
-    entry-field entry unskipped needed known tag content =
-        rw (unskipped, needed) (field-bytes bytes fit at start size next kind here known ∙ ap₂ field tag content)
+    entry-field entry unskipped known tag shortened content =
+        either-way (hasShorter bytes kind start size) _
+        (λ has. rw (unskipped, has) (shortened has))
+        (λ needed. rw (unskipped, needed) (field-bytes bytes fit at start size next kind here known ∙ ap₂ field tag (content needed)))
 
     -- a field whose short form is that of the entry which it adds
     one-more : (entry : Entry) (grown : Sheet) → isEnd kind ≡ false → shortField bytes at kind start size next ≡ fieldOf entry → Entered bytes sheet entry grown → SoFar next grown
@@ -76,18 +80,6 @@ module _ (bytes : List ℕ) (fit : Bytes bytes) where
           order = entered .order;
           kept = (rw (own, on) at with-field) ∙ sym (append-assoc before (fieldOf entry) behind) ∙ ap (λ (l : List ℕ). l ++ behind) (sym all);
         }
-
-  -- a mode's field, in the shorter form where two say the same
-  mode-field : (sheet : Sheet) (at start size next : ℕ) (here : fieldAt bytes at ≡ Field ModeField start size next) (so-far : SoFar at sheet)
-      → wrongLength 2 size ≡ false → shortField bytes at ModeField start size next ≡ fieldOf (ModeEntry (modeAt bytes start size))
-  unfolding pick tagOf
-  mode-field sheet at start size next here so-far right =
-      let there = inside sheet at start size next ModeField here so-far in
-      ⊎-elim
-      (λ (has : hasShorter bytes ModeField start size ≡ true). rw has (ap (field 2) (mode-shortened bytes fit start size there has)))
-      (λ (needed : hasShorter bytes ModeField start size ≡ false).
-      entry-field sheet at start size next ModeField here so-far (ModeEntry (modeAt bytes start size)) refl needed tt refl (mode-content bytes fit start size there right needed))
-      (bool-or (hasShorter bytes ModeField start size))
 
   -- the end field, which has no content
   ended : (sheet : Sheet) (at start size next : ℕ) → fieldAt bytes at ≡ Field EndField start size next → SoFar at sheet
@@ -107,24 +99,28 @@ module _ (bytes : List ℕ) (fit : Bytes bytes) where
         refused = λ n place o inside e. let z : _≡_ {A = ℕ} 0 1 = cc in absurd (omega arith);
         label = λ sheet at start size next e p common own.
             let entry = LabelEntry (take size (drop start bytes)) in
-            one-more sheet at start size next _ e p entry _ refl (entry-field sheet at start size next _ e p entry refl refl tt refl refl)
+            one-more sheet at start size next _ e p entry _ refl (entry-field sheet at start size next _ e p entry refl tt refl (λ has. absurd (true≢false (sym has))) (λ _. refl))
             (with-label bytes sheet (p .order) size _ start common);
         mode = λ sheet at start size next e p common own.
             let says = common-says _ _ _ _ _ common in
-            one-more sheet at start size next _ e p (ModeEntry (modeAt bytes start size)) _ refl (mode-field sheet at start size next e p (says .1))
+            let entry = ModeEntry (modeAt bytes start size) in
+            let there = inside sheet at start size next _ e p in
+            one-more sheet at start size next _ e p entry _ refl
+            (entry-field sheet at start size next _ e p entry refl tt refl (λ has. ap (field 2) (mode-shortened bytes fit start size there has)) (mode-content bytes fit start size there (says .1)))
             (with-mode bytes sheet (p .order) size _ (modeAt bytes start size) common);
         row = λ sheet at start size next e p common own.
             let says = common-says _ _ _ _ _ common in
             let entry = rowEntry bytes (rowAt bytes start) in
             let content = row-content bytes fit start size (inside sheet at start size next _ e p) (row-length _ _ (says .2)) in
-            one-more sheet at start size next _ e p entry _ refl (entry-field sheet at start size next _ e p entry refl refl tt refl content)
+            one-more sheet at start size next _ e p entry _ refl (entry-field sheet at start size next _ e p entry refl tt refl (λ has. absurd (true≢false (sym has))) (λ _. content))
             (with-row bytes sheet (p .order) size _ (rowAt bytes start) common);
         task = λ sheet at start size next e p common own.
             let says = common-says _ _ _ _ _ common in
-            let entry = TaskEntry (taskAt bytes start) in
-            let content = task-content bytes fit start size (inside sheet at start size next _ e p) (says .1) in
-            one-more sheet at start size next _ e p entry _ refl (entry-field sheet at start size next _ e p entry refl refl tt refl content)
-            (with-task bytes sheet (p .order) size _ (taskAt bytes start) common);
+            let entry = TaskEntry (taskAt bytes start size) in
+            let there = inside sheet at start size next _ e p in
+            one-more sheet at start size next _ e p entry _ refl
+            (entry-field sheet at start size next _ e p entry refl tt refl (λ has. ap (field 4) (task-shortened bytes fit start size there has)) (task-content bytes fit start size there (says .1)))
+            (with-task bytes sheet (p .order) size _ (taskAt bytes start size) common);
         skipped = λ sheet at start size next e p. record { order = p .order; kept = with-field sheet at start size next _ e p };
         accepted = λ sheet at start size next e p order long followers end a. ended sheet at start size next e p order long;
       }

@@ -5,8 +5,8 @@ use mathlib.Core.Bool.{Bool, false}
 use lib.ListN.{length, getD}
 use lib.Dec.{ltb, eqb}
 use Rattle.fields.specs.Deciding.{Rule, _when_, pick, anyFrom}
-use Rattle.fields.specs.Limits.{modeSize, fallbackSize, headSize, gapSize}
-use Rattle.fields.specs.Values.{emptySheet, shortSize}
+use Rattle.fields.specs.Limits.{modeSize, fallbackSize, headSize, gapSize, taskSize, jitterSize}
+use Rattle.fields.specs.Values.{emptySheet, shortSize, shortTaskSize}
 use Rattle.rules.specs.Rules.{unlikeSet, unknownIn, commonRules, textRules, modeRules, rowRules, taskRules}
 use Rattle.rules.specs.Counting.{countLabel, countMode, countRow, countTask}
 use Rattle.fields.specs.declared.units.Ticks.{Ticks}
@@ -27,10 +27,15 @@ bandCount [] fallbacks = 0
 bandCount (boundary ∷ boundaries) [] = 0
 bandCount (boundary ∷ boundaries) (fallback ∷ fallbacks) = pick (eqb fallback boundary) 0 1 + bandCount boundaries fallbacks
 
+-- how many fixed tasks have a jitter that is not 0
+unfoldable pub jitterCount : List ℕ → ℕ
+jitterCount [] = 0
+jitterCount (jitter ∷ jitters) = pick (eqb jitter 0) 0 1 + jitterCount jitters
+
 -- how many bytes a sheet has, by the sizes of its label and columns: each field has three before its content, and the end field has no more
-abbrev pub sheetSize : ℕ → ℕ → ℕ → ℕ → ℕ → ℕ → ℕ
-sheetSize label modes bands rows gaps tasks =
-    6 + label + (3 + modeSize) * modes + fallbackSize * bands + (3 + headSize) * rows + gapSize * gaps + 9 * tasks
+abbrev pub sheetSize : ℕ → ℕ → ℕ → ℕ → ℕ → ℕ → ℕ → ℕ
+sheetSize label modes bands rows gaps tasks jitters =
+    6 + label + (3 + modeSize) * modes + fallbackSize * bands + (3 + headSize) * rows + gapSize * gaps + (3 + taskSize) * tasks + jitterSize * jitters
 
 -- the rules of an entry; a field without content breaks rule 5 whatever else it breaks
 unfoldable pub entryRules : Tally → Entry → List Rule
@@ -39,7 +44,7 @@ entryRules tally (ModeEntry mode) = commonRules 2 (tally .last) (shortSize mode)
 entryRules tally (RowEntry speed deadline followers gaps) =
     commonRules 3 (tally .last) (rowSize gaps) (unlikeSet (rowSize gaps) followers) (tally .rows)
     ++ rowRules tally (record { speed = speed; deadline = deadline; followers = followers; gaps = 0 }) (oneShorter gaps (record { 0 = 1 })) (oneShorter gaps deadline)
-entryRules tally (TaskEntry task) = commonRules 4 (tally .last) 6 false (tally .tasks) ++ taskRules task
+entryRules tally (TaskEntry task) = commonRules 4 (tally .last) (shortTaskSize task) false (tally .tasks) ++ taskRules task
 entryRules tally (CutEntry tag) = commonRules tag (tally .last) 0 false 0
 
 -- what an entry adds to the tally

@@ -43,6 +43,7 @@ valuesIn bytes sheet =
       taskLengths = map (λ task. task .length .0) (tasksIn sheet);
       taskPeriods = map (λ task. task .period .0) (tasksIn sheet);
       taskDeadlines = map (λ task. task .deadline .0) (tasksIn sheet);
+      taskJitters = map (λ task. task .jitter .0) (tasksIn sheet);
     }
 
 unfoldable pub valuesOf : List ℕ → Values

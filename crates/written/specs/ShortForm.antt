@@ -6,7 +6,7 @@ use lib.Dec.{eqb}
 use lib.ListN.{length, take, drop}
 use Rattle.fields.specs.Deciding.{pick, _or_}
 use Rattle.fields.specs.Fields.{isEnd}
-use Rattle.fields.specs.Limits.{modeSize, fallbackSize}
+use Rattle.fields.specs.Limits.{modeSize, fallbackSize, taskSize, jitterSize}
 use Rattle.fields.specs.Reading.{wordAt, fieldAt}
 use Rattle.fields.specs.declared.table.Kind.{Kind}
 use Rattle.fields.specs.declared.table.Kind.the-variants.{RefusedTag, LabelField, ModeField, RowField, TaskField, EndField, SkippedField}
@@ -23,21 +23,31 @@ isSkipped TaskField = false
 isSkipped EndField = false
 isSkipped SkippedField = true
 
--- a shorter field would say the same: that of a mode whose fall-back stands in it and is the boundary
+-- a shorter field would say the same: that of a mode whose fall-back stands in it and is the boundary, and that of a fixed task whose jitter stands in it and is 0
 abbrev pub hasShorter : List ℕ → Kind → ℕ → ℕ → Bool
 hasShorter bytes RefusedTag start size = false
 hasShorter bytes LabelField start size = false
 hasShorter bytes ModeField start size = pick (eqb size (modeSize + fallbackSize)) (eqb (wordAt bytes (start + modeSize)) (wordAt bytes start)) false
 hasShorter bytes RowField start size = false
-hasShorter bytes TaskField start size = false
+hasShorter bytes TaskField start size = pick (eqb size (taskSize + jitterSize)) (eqb (wordAt bytes (start + taskSize)) 0) false
 hasShorter bytes EndField start size = false
 hasShorter bytes SkippedField start size = false
+
+-- that field: it leaves out the last number
+abbrev pub shorterField : List ℕ → Kind → ℕ → List ℕ
+shorterField bytes RefusedTag start = []
+shorterField bytes LabelField start = []
+shorterField bytes ModeField start = field 2 (take modeSize (drop start bytes))
+shorterField bytes RowField start = []
+shorterField bytes TaskField start = field 4 (take taskSize (drop start bytes))
+shorterField bytes EndField start = []
+shorterField bytes SkippedField start = []
 
 -- the bytes of one field, from its tag up to the next field; none of a skipped one, and those of the shorter one where that says the same
 abbrev pub shortField : List ℕ → ℕ → Kind → ℕ → ℕ → ℕ → List ℕ
 shortField bytes at kind start size next =
     pick (isSkipped kind) []
-    (pick (hasShorter bytes kind start size) (field 2 (take modeSize (drop start bytes)))
+    (pick (hasShorter bytes kind start size) (shorterField bytes kind start)
     (take (next - at) (drop at bytes)))
 
 -- the field at a place, and behind it what `go` says, but nothing behind the end field

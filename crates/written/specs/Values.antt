@@ -8,7 +8,7 @@ use Rattle.fields.specs.declared.units.Ticks.{Ticks}
 use Rattle.fields.specs.declared.values.Mode.{Mode}
 use Rattle.fields.specs.declared.values.Task.{Task}
 
--- the label's bytes; the boundaries, job lengths and fall-backs of the modes; the speeds, deadlines and follower sets of the rows, and their gaps, those of each row behind those of the row before; the lengths, periods and deadlines of the fixed tasks
+-- the label's bytes; the boundaries, job lengths and fall-backs of the modes; the speeds, deadlines and follower sets of the rows, and their gaps, those of each row behind those of the row before; the lengths, periods, deadlines and jitters of the fixed tasks
 pub record Values : Type 0 where
   pub label : List ℕ
   pub boundaries : List ℕ
@@ -21,10 +21,11 @@ pub record Values : Type 0 where
   pub taskLengths : List ℕ
   pub taskPeriods : List ℕ
   pub taskDeadlines : List ℕ
+  pub taskJitters : List ℕ
 
--- the values that eleven columns hold
-abbrev pub valuesFrom : List ℕ → List ℕ → List ℕ → List ℕ → List ℕ → List ℕ → List ℕ → List ℕ → List ℕ → List ℕ → List ℕ → Values
-valuesFrom label boundaries lengths fallbacks speeds deadlines sets gaps taskLengths taskPeriods taskDeadlines =
+-- the values that twelve columns hold
+abbrev pub valuesFrom : List ℕ → List ℕ → List ℕ → List ℕ → List ℕ → List ℕ → List ℕ → List ℕ → List ℕ → List ℕ → List ℕ → List ℕ → Values
+valuesFrom label boundaries lengths fallbacks speeds deadlines sets gaps taskLengths taskPeriods taskDeadlines taskJitters =
     record {
       label = label;
       boundaries = boundaries;
@@ -37,6 +38,7 @@ valuesFrom label boundaries lengths fallbacks speeds deadlines sets gaps taskLen
       taskLengths = taskLengths;
       taskPeriods = taskPeriods;
       taskDeadlines = taskDeadlines;
+      taskJitters = taskJitters;
     }
 
 -- what one field says: a label, a mode, a row with the gaps to its followers, or a fixed task; or nothing, under a tag, where the columns of a kind part
@@ -70,15 +72,18 @@ rowEntries (speed ∷ speeds) (deadline ∷ deadlines) (followers ∷ sets) gaps
     RowEntry (record { 0 = speed }) (record { 0 = deadline }) followers (take (followerCount followers) gaps)
     ∷ rowEntries speeds deadlines sets (drop (followerCount followers) gaps)
 
--- a fixed task for each length, period and deadline
-unfoldable pub taskEntries : List ℕ → List ℕ → List ℕ → List Entry
-taskEntries [] [] [] = []
-taskEntries [] [] (deadline ∷ deadlines) = CutEntry 4 ∷ []
-taskEntries [] (period ∷ periods) deadlines = CutEntry 4 ∷ []
-taskEntries (length ∷ lengths) [] deadlines = CutEntry 4 ∷ []
-taskEntries (length ∷ lengths) (period ∷ periods) [] = CutEntry 4 ∷ []
-taskEntries (length ∷ lengths) (period ∷ periods) (deadline ∷ deadlines) =
-    TaskEntry (record { length = record { 0 = length }; period = record { 0 = period }; deadline = record { 0 = deadline } }) ∷ taskEntries lengths periods deadlines
+-- a fixed task for each length, period, deadline and jitter
+unfoldable pub taskEntries : List ℕ → List ℕ → List ℕ → List ℕ → List Entry
+taskEntries [] [] [] [] = []
+taskEntries [] [] [] (jitter ∷ jitters) = CutEntry 4 ∷ []
+taskEntries [] [] (deadline ∷ deadlines) jitters = CutEntry 4 ∷ []
+taskEntries [] (period ∷ periods) deadlines jitters = CutEntry 4 ∷ []
+taskEntries (length ∷ lengths) [] deadlines jitters = CutEntry 4 ∷ []
+taskEntries (length ∷ lengths) (period ∷ periods) [] jitters = CutEntry 4 ∷ []
+taskEntries (length ∷ lengths) (period ∷ periods) (deadline ∷ deadlines) [] = CutEntry 4 ∷ []
+taskEntries (length ∷ lengths) (period ∷ periods) (deadline ∷ deadlines) (jitter ∷ jitters) =
+    TaskEntry (record { length = record { 0 = length }; period = record { 0 = period }; deadline = record { 0 = deadline }; jitter = record { 0 = jitter } })
+    ∷ taskEntries lengths periods deadlines jitters
 
 -- the label, then the modes, then the rows, then the fixed tasks
 unfoldable pub entries : Values → List Entry
@@ -86,4 +91,4 @@ entries values =
     LabelEntry (values .label)
     ∷ (modeEntries (values .boundaries) (values .lengths) (values .fallbacks)
     ++ (rowEntries (values .speeds) (values .deadlines) (values .sets) (values .gaps)
-    ++ taskEntries (values .taskLengths) (values .taskPeriods) (values .taskDeadlines)))
+    ++ taskEntries (values .taskLengths) (values .taskPeriods) (values .taskDeadlines) (values .taskJitters)))

@@ -5,6 +5,7 @@ use lib.Dec.{eqb}
 use lib.ListN.{length}
 use Rattle.fields.specs.Deciding.{pick}
 use Rattle.fields.specs.declared.values.Mode.{Mode}
+use Rattle.fields.specs.declared.values.Task.{Task}
 use Rattle.written.specs.Values.{Values, Entry, LabelEntry, ModeEntry, RowEntry, TaskEntry, CutEntry, entries}
 
 -- each number as two bytes, high byte first
@@ -20,6 +21,10 @@ field tag content = tag ∷ length content / 256 ∷ length content % 256 ∷ co
 unfoldable pub modeNumbers : Mode → List ℕ
 modeNumbers mode = mode .boundary .0 ∷ mode .length .0 ∷ pick (eqb (mode .fallback .0) (mode .boundary .0)) [] (mode .fallback .0 ∷ [])
 
+-- those of a fixed task: its jitter only where it is not 0
+unfoldable pub taskNumbers : Task → List ℕ
+taskNumbers task = task .length .0 ∷ task .period .0 ∷ task .deadline .0 ∷ pick (eqb (task .jitter .0) 0) [] (task .jitter .0 ∷ [])
+
 -- the tag of an entry, as in the field table
 unfoldable pub tagOf : Entry → ℕ
 tagOf (LabelEntry text) = 1
@@ -33,7 +38,7 @@ unfoldable pub contentOf : Entry → List ℕ
 contentOf (LabelEntry text) = text
 contentOf (ModeEntry mode) = words (modeNumbers mode)
 contentOf (RowEntry speed deadline followers gaps) = words (speed .0 ∷ deadline .0 ∷ followers / 65536 ∷ followers % 65536 ∷ gaps)
-contentOf (TaskEntry task) = words (task .length .0 ∷ task .period .0 ∷ task .deadline .0 ∷ [])
+contentOf (TaskEntry task) = words (taskNumbers task)
 contentOf (CutEntry tag) = []
 
 abbrev pub fieldOf : Entry → List ℕ

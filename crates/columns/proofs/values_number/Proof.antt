@@ -13,8 +13,8 @@ use Rattle.columns.proofs.values_number.Tie as tie
 -- the values that are judged
 abbrev given : tie.After-empty → Values
 given c =
-    let a = c .before .before .before .before .before .before .before .before .before .before .before .before .args in
-    valuesFrom (now (a .label)) (now (a .boundaries)) (now (a .lengths)) (now (a .fallbacks)) (now (a .speeds)) (now (a .deadlines)) (now (a .sets)) (now (a .gaps)) (now (a .task-lengths)) (now (a .task-periods)) (now (a .task-deadlines))
+    let a = c .before .before .before .before .before .before .before .before .before .before .before .before .before .args in
+    valuesFrom (now (a .label)) (now (a .boundaries)) (now (a .lengths)) (now (a .fallbacks)) (now (a .speeds)) (now (a .deadlines)) (now (a .sets)) (now (a .gaps)) (now (a .task-lengths)) (now (a .task-periods)) (now (a .task-deadlines)) (now (a .task-jitters))
 
 -- before anything is judged, all entries are left
 nothing-judged : (c : tie.After-empty) → Onward noTally (entries (given c)) (c .empty .result .tally) (entries (given c))
@@ -25,7 +25,7 @@ label-judged : (c : tie.After-count-label) →
     let values = given (c .before .before .before .before) in
     Onward noTally (entries values) (c .count-label .result)
     (modeEntries (values .boundaries) (values .lengths) (values .fallbacks)
-    ++ (rowEntries (values .speeds) (values .deadlines) (values .sets) (values .gaps) ++ taskEntries (values .taskLengths) (values .taskPeriods) (values .taskDeadlines)))
+    ++ (rowEntries (values .speeds) (values .deadlines) (values .sets) (values .gaps) ++ taskEntries (values .taskLengths) (values .taskPeriods) (values .taskDeadlines) (values .taskJitters)))
 unfolding entries countEntry
 label-judged c =
     rw (c .count-label .ensures)
@@ -35,13 +35,13 @@ label-judged c =
 modes-judged : (c : tie.Else2) →
     let values = given (c .before .before .before .before .before .before .before) in
     Onward noTally (entries values) (c .before .before .modes-number .result .tally)
-    (rowEntries (values .speeds) (values .deadlines) (values .sets) (values .gaps) ++ taskEntries (values .taskLengths) (values .taskPeriods) (values .taskDeadlines))
+    (rowEntries (values .speeds) (values .deadlines) (values .sets) (values .gaps) ++ taskEntries (values .taskLengths) (values .taskPeriods) (values .taskDeadlines) (values .taskJitters))
 modes-judged c = stretch-next _ _ _ _ _ (c .before .before .modes-number .ensures) _ (c .if2 .left) (label-judged (c .before .before .before))
 
 -- behind the rows the fixed tasks
 rows-judged : (c : tie.Else3) →
     let values = given (c .before .before .before .before .before .before .before .before .before .before) in
-    Onward noTally (entries values) (c .before .before .rows-number .result .tally) (taskEntries (values .taskLengths) (values .taskPeriods) (values .taskDeadlines))
+    Onward noTally (entries values) (c .before .before .rows-number .result .tally) (taskEntries (values .taskLengths) (values .taskPeriods) (values .taskDeadlines) (values .taskJitters))
 rows-judged c = stretch-next _ _ _ _ _ (c .before .before .rows-number .ensures) _ (c .if3 .left) (modes-judged (c .before .before .before))
 
 -- and what is told of the fixed tasks holds of all entries

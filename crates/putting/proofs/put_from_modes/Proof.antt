@@ -13,20 +13,20 @@ use Rattle.putting.proofs.put_from_modes.Tie as tie
 
 -- there is room for what follows
 fits : (c : tie.After-slice-known2) →
-    let a = c .before .before .before .before .before .before .before .before .before .before .before .before .before .before .before .args in
-    c .before .before .put-modes .result + length (fromRows (now (a .speeds)) (now (a .deadlines)) (now (a .sets)) (now (a .gaps)) (now (a .task-lengths)) (now (a .task-periods)) (now (a .task-deadlines))) ≤ length (c .before .before .put-modes .last .0)
+    let a = c .before .before .before .before .before .before .before .before .before .before .before .before .before .before .before .before .args in
+    c .before .before .put-modes .result + length (fromRows (now (a .speeds)) (now (a .deadlines)) (now (a .sets)) (now (a .gaps)) (now (a .task-lengths)) (now (a .task-periods)) (now (a .task-deadlines)) (now (a .task-jitters))) ≤ length (c .before .before .put-modes .last .0)
 unfolding fromModes
 fits c =
-    let a = c .before .before .before .before .before .before .before .before .before .before .before .before .before .before .before .args in
+    let a = c .before .before .before .before .before .before .before .before .before .before .before .before .before .before .before .before .args in
     let call = c .before .before .put-modes in
-    room-behind _ (fieldsOf (modeEntries (now (a .boundaries)) (now (a .lengths)) (now (a .fallbacks)))) (fromRows (now (a .speeds)) (now (a .deadlines)) (now (a .sets)) (now (a .gaps)) (now (a .task-lengths)) (now (a .task-periods)) (now (a .task-deadlines))) (now (a .out)) (call .last .0) (call .ensures .0) (call .kept .0) (c .before .before .before .before .before .before .before .before .before .before .before .before .before .before .before .pre .0)
+    room-behind _ (fieldsOf (modeEntries (now (a .boundaries)) (now (a .lengths)) (now (a .fallbacks)))) (fromRows (now (a .speeds)) (now (a .deadlines)) (now (a .sets)) (now (a .gaps)) (now (a .task-lengths)) (now (a .task-periods)) (now (a .task-deadlines)) (now (a .task-jitters))) (now (a .out)) (call .last .0) (call .ensures .0) (call .kept .0) (c .before .before .before .before .before .before .before .before .before .before .before .before .before .before .before .before .pre .0)
 
 put-modes-requires : tie.Need-put-modes-requires
 unfolding fromModes
 put-modes-requires c κs =
-    let a = c .before .before .before .before .before .before .before .before .before .before .before .before .args in
-    let p = c .before .before .before .before .before .before .before .before .before .before .before .before .pre in
-    (room-first (fieldsOf (modeEntries (now (a .boundaries)) (now (a .lengths)) (now (a .fallbacks)))) (fromRows (now (a .speeds)) (now (a .deadlines)) (now (a .sets)) (now (a .gaps)) (now (a .task-lengths)) (now (a .task-periods)) (now (a .task-deadlines))) (now (a .out)) (p .0), p .1 .0)
+    let a = c .before .before .before .before .before .before .before .before .before .before .before .before .before .args in
+    let p = c .before .before .before .before .before .before .before .before .before .before .before .before .before .pre in
+    (room-first (fieldsOf (modeEntries (now (a .boundaries)) (now (a .lengths)) (now (a .fallbacks)))) (fromRows (now (a .speeds)) (now (a .deadlines)) (now (a .sets)) (now (a .gaps)) (now (a .task-lengths)) (now (a .task-periods)) (now (a .task-deadlines)) (now (a .task-jitters))) (now (a .out)) (p .0), p .1 .0)
 
 returns : tie.Need-returns
 unfolding fromModes
@@ -40,6 +40,6 @@ put-from-modes-spec =
     (λ c. omega (arith, fits c))
     (λ c. omega (arith, fits c))
     (λ c. search needs)
-    (λ c κs. (simp (length-take, length-drop) (omega (arith, fits (c .before))), c .before .before .before .before .before .before .before .before .before .before .before .before .before .before .before .before .pre .1 .1))
+    (λ c κs. (simp (length-take, length-drop) (omega (arith, fits (c .before))), c .before .before .before .before .before .before .before .before .before .before .before .before .before .before .before .before .before .pre .1 .1))
     (λ c. search needs)
     returns)

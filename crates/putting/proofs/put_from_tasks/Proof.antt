@@ -16,16 +16,16 @@ use Rattle.putting.proofs.put_from_tasks.Tie as tie
 fits : (c : tie.After-slice-known2) → c .before .before .put-tasks .result + 3 ≤ length (c .before .before .put-tasks .last .0)
 unfolding fromTasks
 fits c =
-    let a = c .before .before .before .before .before .before .before .before .args in
+    let a = c .before .before .before .before .before .before .before .before .before .args in
     let call = c .before .before .put-tasks in
-    room-behind _ (fieldsOf (taskEntries (now (a .lengths)) (now (a .periods)) (now (a .deadlines)))) (field 5 []) (now (a .out)) (call .last .0) (call .ensures .0) (call .kept .0) (c .before .before .before .before .before .before .before .before .pre .0)
+    room-behind _ (fieldsOf (taskEntries (now (a .lengths)) (now (a .periods)) (now (a .deadlines)) (now (a .jitters)))) (field 5 []) (now (a .out)) (call .last .0) (call .ensures .0) (call .kept .0) (c .before .before .before .before .before .before .before .before .before .pre .0)
 
 put-tasks-requires : tie.Need-put-tasks-requires
 unfolding fromTasks
 put-tasks-requires c κs =
-    let a = c .before .before .before .before .before .args in
-    let p = c .before .before .before .before .before .pre in
-    (room-first (fieldsOf (taskEntries (now (a .lengths)) (now (a .periods)) (now (a .deadlines)))) (field 5 []) (now (a .out)) (p .0), p .1)
+    let a = c .before .before .before .before .before .before .args in
+    let p = c .before .before .before .before .before .before .pre in
+    (room-first (fieldsOf (taskEntries (now (a .lengths)) (now (a .periods)) (now (a .deadlines)) (now (a .jitters)))) (field 5 []) (now (a .out)) (p .0), p .1)
 
 returns : tie.Need-returns
 unfolding fromTasks

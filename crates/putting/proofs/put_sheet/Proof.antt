@@ -22,7 +22,7 @@ use Rattle.putting.proofs.put_sheet.Tie as tie
 abbrev following : Values → List ℕ
 following values =
     fromModes (values .boundaries) (values .lengths) (values .fallbacks) (values .speeds) (values .deadlines) (values .sets) (values .gaps)
-    (values .taskLengths) (values .taskPeriods) (values .taskDeadlines)
+    (values .taskLengths) (values .taskPeriods) (values .taskDeadlines) (values .taskJitters)
 
 nested : (a b c d e : List ℕ) → (a ++ (b ++ (c ++ d))) ++ e ≡ a ++ (b ++ (c ++ (d ++ e)))
 nested a b c d e =
@@ -36,7 +36,7 @@ module _ (values : Values) where
       let label = fieldOf (LabelEntry (values .label)) in
       let modes = modeEntries (values .boundaries) (values .lengths) (values .fallbacks) in
       let rows = rowEntries (values .speeds) (values .deadlines) (values .sets) (values .gaps) in
-      let tasks = taskEntries (values .taskLengths) (values .taskPeriods) (values .taskDeadlines) in
+      let tasks = taskEntries (values .taskLengths) (values .taskPeriods) (values .taskDeadlines) (values .taskJitters) in
       ap (λ (l : List ℕ). (label ++ l) ++ field 5 []) (fields-both modes (rows ++ tasks) ∙ ap (λ (l : List ℕ). fieldsOf modes ++ l) (fields-both rows tasks))
       ∙ nested label (fieldsOf modes) (fieldsOf rows) (fieldsOf tasks) (field 5 [])
 
@@ -45,7 +45,7 @@ module _ (values : Values) where
       → (length (values .label) ≤ labelLimit)
       × Unbroken (modeEntries (values .boundaries) (values .lengths) (values .fallbacks))
       × Unbroken (rowEntries (values .speeds) (values .deadlines) (values .sets) (values .gaps))
-      × Unbroken (taskEntries (values .taskLengths) (values .taskPeriods) (values .taskDeadlines))
+      × Unbroken (taskEntries (values .taskLengths) (values .taskPeriods) (values .taskDeadlines) (values .taskJitters))
   unfolding entries
   parts none =
       let modes = unbroken-both (modeEntries (values .boundaries) (values .lengths) (values .fallbacks)) _ (unbroken-behind (LabelEntry (values .label)) _ (noTally, none)) in
@@ -54,38 +54,38 @@ module _ (values : Values) where
 
 -- there is room for what follows
 fits : (c : tie.After-slice-known2) →
-    let a = c .before .before .before .before .before .before .before .before .before .before .before .before .before .before .before .before .args in
-    3 + length (now (a .label)) + length (fromModes (now (a .boundaries)) (now (a .lengths)) (now (a .fallbacks)) (now (a .speeds)) (now (a .deadlines)) (now (a .sets)) (now (a .gaps)) (now (a .task-lengths)) (now (a .task-periods)) (now (a .task-deadlines)))
+    let a = c .before .before .before .before .before .before .before .before .before .before .before .before .before .before .before .before .before .args in
+    3 + length (now (a .label)) + length (fromModes (now (a .boundaries)) (now (a .lengths)) (now (a .fallbacks)) (now (a .speeds)) (now (a .deadlines)) (now (a .sets)) (now (a .gaps)) (now (a .task-lengths)) (now (a .task-periods)) (now (a .task-deadlines)) (now (a .task-jitters)))
     ≤ length (c .before .before .put-label .last .0)
 unfolding contentOf
 fits c =
-    let a = c .before .before .before .before .before .before .before .before .before .before .before .before .before .before .before .before .args in
+    let a = c .before .before .before .before .before .before .before .before .before .before .before .before .before .before .before .before .before .args in
     let call = c .before .before .put-label in
-    let values = valuesFrom (now (a .label)) (now (a .boundaries)) (now (a .lengths)) (now (a .fallbacks)) (now (a .speeds)) (now (a .deadlines)) (now (a .sets)) (now (a .gaps)) (now (a .task-lengths)) (now (a .task-periods)) (now (a .task-deadlines)) in
+    let values = valuesFrom (now (a .label)) (now (a .boundaries)) (now (a .lengths)) (now (a .fallbacks)) (now (a .speeds)) (now (a .deadlines)) (now (a .sets)) (now (a .gaps)) (now (a .task-lengths)) (now (a .task-periods)) (now (a .task-deadlines)) (now (a .task-jitters)) in
     room-behind _ (fieldOf (LabelEntry (now (a .label)))) (following values) (now (a .out)) (call .last .0) (omega arith) (call .kept .0)
-    (rw (whole values) at (c .before .before .before .before .before .before .before .before .before .before .before .before .before .before .before .before .pre .0))
+    (rw (whole values) at (c .before .before .before .before .before .before .before .before .before .before .before .before .before .before .before .before .before .pre .0))
 
 put-label-requires : tie.Need-put-label-requires
 put-label-requires c κs =
-    let a = c .before .before .before .before .before .before .before .before .before .before .before .before .before .args in
-    let p = c .before .before .before .before .before .before .before .before .before .before .before .before .before .pre in
-    let values = valuesFrom (now (a .label)) (now (a .boundaries)) (now (a .lengths)) (now (a .fallbacks)) (now (a .speeds)) (now (a .deadlines)) (now (a .sets)) (now (a .gaps)) (now (a .task-lengths)) (now (a .task-periods)) (now (a .task-deadlines)) in
+    let a = c .before .before .before .before .before .before .before .before .before .before .before .before .before .before .args in
+    let p = c .before .before .before .before .before .before .before .before .before .before .before .before .before .before .pre in
+    let values = valuesFrom (now (a .label)) (now (a .boundaries)) (now (a .lengths)) (now (a .fallbacks)) (now (a .speeds)) (now (a .deadlines)) (now (a .sets)) (now (a .gaps)) (now (a .task-lengths)) (now (a .task-periods)) (now (a .task-deadlines)) (now (a .task-jitters)) in
     (room-first (fieldOf (LabelEntry (now (a .label)))) (following values) (now (a .out)) (rw (whole values) at (p .0)), parts values (p .1 .0) .0)
 
 put-from-modes-requires : tie.Need-put-from-modes-requires
 put-from-modes-requires c κs =
-    let a = c .before .before .before .before .before .before .before .before .before .before .before .before .before .before .before .before .before .args in
-    let p = c .before .before .before .before .before .before .before .before .before .before .before .before .before .before .before .before .before .pre in
-    let unbroken = parts (valuesFrom (now (a .label)) (now (a .boundaries)) (now (a .lengths)) (now (a .fallbacks)) (now (a .speeds)) (now (a .deadlines)) (now (a .sets)) (now (a .gaps)) (now (a .task-lengths)) (now (a .task-periods)) (now (a .task-deadlines))) (p .1 .0) in
+    let a = c .before .before .before .before .before .before .before .before .before .before .before .before .before .before .before .before .before .before .args in
+    let p = c .before .before .before .before .before .before .before .before .before .before .before .before .before .before .before .before .before .before .pre in
+    let unbroken = parts (valuesFrom (now (a .label)) (now (a .boundaries)) (now (a .lengths)) (now (a .fallbacks)) (now (a .speeds)) (now (a .deadlines)) (now (a .sets)) (now (a .gaps)) (now (a .task-lengths)) (now (a .task-periods)) (now (a .task-deadlines)) (now (a .task-jitters))) (p .1 .0) in
     (simp (length-take, length-drop) (omega (arith, fits (c .before))), (unbroken .1, (unbroken .2, (unbroken .3, p .1 .1))))
 
 returns : tie.Need-returns
 unfolding contentOf
 returns c =
-    let a = c .before .before .before .before .before .before .before .before .before .before .before .before .before .before .before .before .before .before .before .before .args in
+    let a = c .before .before .before .before .before .before .before .before .before .before .before .before .before .before .before .before .before .before .before .before .before .args in
     let first = c .before .before .before .before .before .before .put-label in
     let behind = c .before .before .put-from-modes in
-    let values = valuesFrom (now (a .label)) (now (a .boundaries)) (now (a .lengths)) (now (a .fallbacks)) (now (a .speeds)) (now (a .deadlines)) (now (a .sets)) (now (a .gaps)) (now (a .task-lengths)) (now (a .task-periods)) (now (a .task-deadlines)) in
+    let values = valuesFrom (now (a .label)) (now (a .boundaries)) (now (a .lengths)) (now (a .fallbacks)) (now (a .speeds)) (now (a .deadlines)) (now (a .sets)) (now (a .gaps)) (now (a .task-lengths)) (now (a .task-periods)) (now (a .task-deadlines)) (now (a .task-jitters)) in
     let all = put-behind _ (fieldOf (LabelEntry (now (a .label)))) (following values) (now (a .out)) _ (behind .last .0) (omega arith) (first .ensures) (behind .ensures) in
     rw (whole values) all
 

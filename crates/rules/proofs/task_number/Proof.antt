@@ -12,9 +12,11 @@ task-number-spec =
     tie.close
     (tie.spec
     (λ c κs. search needs)
-    (λ c. search judging depth 7)
+    (λ c. search judging depth 8)
     (λ c κs. search needs)
-    (λ c. search judging depth 7)
+    (λ c. search judging depth 8)
     (λ c κs. search needs)
-    (λ c. search judging depth 7)
-    (λ c. search judging depth 7))
+    (λ c. search judging depth 8)
+    (λ c κs. search needs)
+    (λ c. search judging depth 8)
+    (λ c. search judging depth 8))

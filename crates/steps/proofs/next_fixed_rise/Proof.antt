@@ -36,8 +36,7 @@ mul-task c = omega (arith, few c)
 next-due-requires : tie.Need-next-due-requires Inv-loop μ-loop
 next-due-requires c κs =
     let s = c .before .before .before in
-    let task = s .pre .0 .each (c .before .before .loop .i) (c .before .loop-test .taken) in
-    ((task .length .0, task .period .0, task .deadline .0), s .pre .1)
+    (s .pre .0 .each (c .before .before .loop .i) (c .before .loop-test .taken), s .pre .1)
 
 loop-again : tie.Need-loop-again Inv-loop μ-loop
 loop-again c =

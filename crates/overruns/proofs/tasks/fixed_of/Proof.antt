@@ -5,50 +5,64 @@ use Rattle.sheet.specs.Meaning.{timesOf}
 use Rattle.meaning.proofs.FixedTasks.{fixed-before, fixed-from}
 use Rattle.meaning.specs.Demand.{longestTime}
 use borrow.Author.Needs.{needs}
-use mathlib.Core.Path.{sym}
+use mathlib.Core.Path.{_≡_, _∙_, sym, ap}
 use native.Mathlib.Nat.{div-le-self, mul-le-mul}
 use native.Mathlib.Omega.{arith}
 use Rattle.overruns.proofs.tasks.fixed_of.Tie as tie
 
+first-due-requires : tie.Need-first-due-requires
+first-due-requires c κs = omega (arith, c .pre .0 .jitter)
+
 returns : tie.Need-returns
-returns c = (sym (fixed-before (timesOf (c .before .before .args .task)) (c .before .before .args .t) (c .if1 .taken)), omega arith)
+returns c =
+    let s = c .before .before in
+    (sym (fixed-before (timesOf (s .args .task)) (s .args .t) (omega (arith, c .if1 .taken, c .before .first-due .ensures, s .pre .0 .jitter))), omega arith)
 
--- no more jobs than ticks, and one
-few : (period first t : ℕ) → t ≤ longestTime → 1 + (t - first) / period ≤ longestTime + 1
-few period first t h = omega (arith, div-le-self (t - first) period)
+whole-periods-requires : tie.Need-whole-periods-requires
+whole-periods-requires c κs =
+    let s = c .before .before in
+    (omega (arith, s .pre .0 .period), omega (arith, s .pre .1))
 
--- so the product is small
-small : (work period first t : ℕ) → work ≤ longestTime → t ≤ longestTime → work * (1 + (t - first) / period) ≤ longestTime * (longestTime + 1)
-small work period first t l h = mul-le-mul {n₁ = work} {m₁ = 1 + (t - first) / period} {n₂ = longestTime} {m₂ = longestTime + 1} l (few period first t h)
+-- the whole periods are those of the definition
+periods : (c : tie.After-whole-periods) →
+    let a = c .before .before .before .args in
+    c .whole-periods .result ≡ (a .t + a .task .jitter .0 - a .task .deadline .0) / a .task .period .0
+periods c =
+    let s = c .before .before .before in
+    let same : s .args .t - c .before .before .first-due .result ≡ s .args .t + s .args .task .jitter .0 - s .args .task .deadline .0 =
+    omega (arith, c .before .if1 .left, c .before .before .first-due .ensures, s .pre .0 .jitter) in
+    c .whole-periods .ensures ∙ ap (λ (time : ℕ). time / s .args .task .period .0) same
+
+-- and no more than ticks
+few : (c : tie.After-whole-periods) → c .whole-periods .result ≤ longestTime
+few c =
+    let s = c .before .before .before in
+    omega (arith, c .whole-periods .ensures, div-le-self (s .args .t - c .before .before .first-due .result) (s .args .task .period .0), s .pre .1)
 
 add-jobs : tie.Need-add-jobs
-add-jobs c =
-    let s = c .before .before .before in
-    omega (arith, few (s .args .task .period .0) (s .args .task .deadline .0) (s .args .t) (s .pre .1))
+add-jobs c = omega (arith, few c)
 
-product : (c : tie.After-struct-known3) →
-    let a = c .before .before .before .before .args in
-    a .task .length .0 * (1 + (a .t - a .task .deadline .0) / a .task .period .0) ≤ longestTime * (longestTime + 1)
-product c =
-    let s = c .before .before .before .before in
-    small (s .args .task .length .0) (s .args .task .period .0) (s .args .task .deadline .0) (s .args .t) (omega arith) (s .pre .1)
+-- so the product is small
+small : (c : tie.After-struct-known) → c .before .before .before .before .args .task .length .0 * (1 + c .before .whole-periods .result) ≤ longestTime * (longestTime + 1)
+small c = mul-le-mul {m₁ = 1 + c .before .whole-periods .result} {n₂ = longestTime} {m₂ = longestTime + 1} (omega arith) (omega (arith, few (c .before)))
 
 mul-result : tie.Need-mul-result
-mul-result c = omega (arith, product c)
+mul-result c = omega (arith, small c)
 
 returns-2 : tie.Need-returns-2
 returns-2 c =
-    let s = c .before .before .before .before in
-    (sym (fixed-from (timesOf (s .args .task)) (s .args .t) (c .before .before .if1 .left)), product c)
+    let i = c .before .before in
+    let s = i .before .before in
+    let from : s .args .task .deadline .0 ≤ s .args .t + s .args .task .jitter .0 = omega (arith, i .if1 .left, i .before .first-due .ensures, s .pre .0 .jitter) in
+    (ap (λ (jobs : ℕ). s .args .task .length .0 * (1 + jobs)) (periods (c .before)) ∙ sym (fixed-from (timesOf (s .args .task)) (s .args .t) from), small c)
 
 pub fixed-of-spec : {M : Type 1} → statement M
 fixed-of-spec =
     tie.close
     (tie.spec
-    (λ c. search needs)
+    first-due-requires
     returns
-    (λ c. search needs)
-    (λ c. search needs)
+    whole-periods-requires
     add-jobs
     (λ c. search needs)
     mul-result

@@ -4,7 +4,7 @@ use Rattle.putting.proofs.Standing.{Standing, none-standing, next-room,
 use Rattle.putting.proofs.UnbrokenColumns.{modes-long}
 use Rattle.putting.proofs.kinds.put_modes.Statement.{statement}
 use Rattle.written.proofs.EntriesFrom.{modeAmong, modesFrom, modes-next, modes-end}
-use Rattle.written.proofs.ModeNumbers.{mode-long}
+use Rattle.written.proofs.ShortNumbers.{mode-long}
 use Rattle.written.specs.Values.{modeEntries}
 use Rattle.written.specs.Written.{fieldOf}
 use borrow.Author.Needs.{needs}

@@ -5,7 +5,8 @@ use mathlib.Core.Path.{refl}
 use Rattle.sheet.proofs.judging.task_at.Tie as tie
 
 returns : tie.Need-returns
-returns c = rw (← c .before .before .word-at .ensures, ← c .before .word-at2 .ensures, ← c .word-at3 .ensures) refl
+returns c =
+    rw (c .before .before .before .word-at .ensures, c .before .before .word-at2 .ensures, c .before .word-at3 .ensures, c .jitter-at .ensures) refl
 
 pub task-at-spec : {M : Type 1} → statement M
 task-at-spec =
@@ -15,5 +16,6 @@ task-at-spec =
     (λ c. search needs)
     (λ c κs. search needs)
     (λ c. search needs)
+    (λ c κs. search needs)
     (λ c κs. search needs)
     returns)
