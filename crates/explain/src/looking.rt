@@ -31,7 +31,7 @@ pub(crate) fn look_over(
     requires { ⌜ n * (horizon + 1) ≤ length (now cells) ⌝ }
     ensures { λ r. ⌜ IsTightest n tasks count (now (cells .entry)) horizon r ⌝ }
 {
-    let times = times_of(tasks, count);
+    let times = times_of(tasks);
     let lengths = times.lengths;
     let periods = times.periods;
     let mut dues = times.dues;

@@ -59,7 +59,7 @@ impl Row {
     };
 }
 
-// A fixed-period task, and the jitter: up to so long after its clock each job is released.
+// A fixed-period task. Each of its jobs is released up to the jitter after its clock.
 pub struct Task {
     pub length: Ticks,
     pub period: Ticks,

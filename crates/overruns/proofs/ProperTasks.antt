@@ -11,6 +11,7 @@ use Rattle.meaning.specs.Fixed as fixed
 use Rattle.meaning.specs.Fixed.{fixedOf, fixedSum}
 use Rattle.meaning.proofs.Bounds.{fixed-fits}
 use Rattle.meaning.proofs.FixedTasks.{fixed-before, fixed-more}
+use Rattle.fields.specs.Limits.{taskLimit}
 use Rattle.fields.specs.Values.{noTask}
 use Rattle.fields.specs.declared.values.Task.{Task}
 use Rattle.fields.specs.declared.values.Sheet.{Sheet}
@@ -94,15 +95,15 @@ module _ (tasks : List Task) (count : ℕ) (proper : ProperTasks tasks count) wh
       omega (arith, none-yet i (omega arith), fixed-more counted i (timesOf noTask) 0 h, fixed-before (taskAt counted i) 0 (omega (arith, tasks-proper i h .jitter)))
 
   -- at 0 the next jobs are the first ones
-  pub running-start : (times : Times) → AreTimes tasks count times → Running (countedTasks tasks count) (times .lengths) (times .periods) (times .dues) 0 0
+  pub running-start : (times : Times) → AreTimes tasks times → Running (countedTasks tasks count) (times .lengths) (times .periods) (times .dues) 0 0
   unfolding counted
   running-start times are = record {
     positive = λ i h. tasks-proper i h .period .0;
-    lengths-are = λ i h. are .lengths i (within i h) ∙ sym (ap (λ (task : fixed.Task). task .length) (same i h));
-    periods-are = λ i h. are .periods i (within i h) ∙ sym (ap (λ (task : fixed.Task). task .period) (same i h));
+    lengths-are = λ i h. are .lengths i (few i h) ∙ sym (ap (λ (task : fixed.Task). task .length) (same i h));
+    periods-are = λ i h. are .periods i (few i h) ∙ sym (ap (λ (task : fixed.Task). task .period) (same i h));
     next = λ i h.
         let due : getD (times .dues) i 0 ≡ taskAt counted i .deadline - taskAt counted i .jitter =
-        are .dues i (within i h) ∙ sym (ap (λ (task : fixed.Task). task .deadline - task .jitter) (same i h)) in
+        are .dues i (few i h) ∙ sym (ap (λ (task : fixed.Task). task .deadline - task .jitter) (same i h)) in
         let below = tasks-proper i h .jitter in
         due-first (taskAt counted i) 0 (getD (times .dues) i 0) (omega (arith, due, below)) (omega (arith, due, below));
     sum-is = sym (rw (take-length counted) at (none-yet (length counted) (omega arith)));
@@ -110,6 +111,9 @@ module _ (tasks : List Task) (count : ℕ) (proper : ProperTasks tasks count) wh
     where
       within : (i : ℕ) → i < length (countedTasks tasks count) → i < count
       within i h = omega (arith, tasks-count)
+
+      few : (i : ℕ) → i < length (countedTasks tasks count) → i < taskLimit
+      few i h = omega (arith, within i h, proper .most)
 
       same : (i : ℕ) → i < length (countedTasks tasks count) → taskAt (countedTasks tasks count) i ≡ timesOf (getD tasks i noTask)
       same i h = task-of i (timesOf noTask) (within i h)

@@ -41,9 +41,9 @@ pub record Advanced (lengths periods old new : List ℕ) (count t work : ℕ) : 
 abbrev pub firstDue : Task → ℕ
 firstDue task = task .deadline .0 - task .jitter .0
 
--- the times of the tasks that are counted, and when their first jobs fall due
-pub record AreTimes (tasks : List Task) (count : ℕ) (times : Times) : Type 0 where
-  pub lengths : (i : ℕ) → i < count → getD (times .lengths) i 0 ≡ getD tasks i noTask .length .0
-  pub periods : (i : ℕ) → i < count → getD (times .periods) i 0 ≡ getD tasks i noTask .period .0
-  pub dues : (i : ℕ) → i < count → getD (times .dues) i 0 ≡ firstDue (getD tasks i noTask)
+-- the times of the tasks, and when their first jobs fall due
+pub record AreTimes (tasks : List Task) (times : Times) : Type 0 where
+  pub lengths : (i : ℕ) → i < taskLimit → getD (times .lengths) i 0 ≡ getD tasks i noTask .length .0
+  pub periods : (i : ℕ) → i < taskLimit → getD (times .periods) i 0 ≡ getD tasks i noTask .period .0
+  pub dues : (i : ℕ) → i < taskLimit → getD (times .dues) i 0 ≡ firstDue (getD tasks i noTask)
   pub room : length (times .dues) ≡ taskLimit

@@ -34,7 +34,7 @@ pub fn sweep(
     requires { ⌜ n * (horizon + 1) ≤ length (now cells) ⌝ }
     ensures { λ r. ⌜ IsSwept (tableOf table) n tasks count (now (cells .entry)) horizon r ⌝ }
 {
-    let times = times_of(tasks, count);
+    let times = times_of(tasks);
     let lengths = times.lengths;
     let periods = times.periods;
     let mut dues = times.dues;

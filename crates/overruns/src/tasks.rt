@@ -50,10 +50,13 @@ pub fn fixed_of(task: Task, t: usize) -> u64
 }
 
 // When a task's first job falls due: an interval that starts as it is released, as late as it can be, has its deadline the jitter sooner.
+// The test is for what an array holds past the tasks that are counted, of which nothing is known.
 pub fn first_due(deadline: Ticks, jitter: Ticks) -> usize
-    requires { ⌜ jitter .0 ≤ deadline .0 ⌝ }
     ensures { λ r. ⌜ r ≡ deadline .0 - jitter .0 ⌝ }
 {
+    if deadline.shorter(jitter) {
+        return 0;
+    }
     deadline.0 as usize - jitter.0 as usize
 }
 
@@ -67,15 +70,14 @@ fn whole_periods(time: usize, period: Ticks) -> usize
 }
 
 // The times of the tasks before the first interval.
-pub fn times_of(tasks: [Task; Sheet::TASKS], count: usize) -> Times
-    requires { ⌜ ProperTasks tasks count ⌝ }
-    ensures { λ r. ⌜ AreTimes tasks count r ⌝ }
+pub fn times_of(tasks: [Task; Sheet::TASKS]) -> Times
+    ensures { λ r. ⌜ AreTimes tasks r ⌝ }
 {
     let mut lengths = [0u16; Sheet::TASKS];
     let mut periods = [0u16; Sheet::TASKS];
     let mut dues = [0usize; Sheet::TASKS];
     let mut i: usize = 0;
-    while i < count {
+    while i < Sheet::TASKS {
         let task = tasks[i];
         lengths[i] = task.length.0;
         periods[i] = task.period.0;

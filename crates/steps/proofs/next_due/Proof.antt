@@ -10,9 +10,6 @@ use Rattle.steps.proofs.Releases.{due-after, next-rise-is-due}
 use Rattle.steps.proofs.next_due.Statement.{statement}
 use Rattle.steps.proofs.next_due.Tie as tie
 
-first-due-requires : tie.Need-first-due-requires
-first-due-requires c κs = omega (arith, c .pre .0 .jitter)
-
 -- the first job falls due the jitter before its deadline
 first-job : (c : tie.After-first-due) → c .first-due .result + c .before .args .task .jitter .0 ≡ c .before .args .task .deadline .0
 first-job c = omega (arith, c .first-due .ensures, c .before .pre .0 .jitter)
@@ -58,7 +55,7 @@ pub next-due-spec : {M : Type 1} → statement M
 next-due-spec =
     tie.close
     (tie.spec
-    first-due-requires
+    (λ c κs. search needs)
     (λ c. search needs)
     (λ c κs. search needs)
     returns

@@ -10,9 +10,6 @@ use native.Mathlib.Nat.{div-le-self, mul-le-mul}
 use native.Mathlib.Omega.{arith}
 use Rattle.overruns.proofs.tasks.fixed_of.Tie as tie
 
-first-due-requires : tie.Need-first-due-requires
-first-due-requires c κs = omega (arith, c .pre .0 .jitter)
-
 returns : tie.Need-returns
 returns c =
     let s = c .before .before in
@@ -60,7 +57,7 @@ pub fixed-of-spec : {M : Type 1} → statement M
 fixed-of-spec =
     tie.close
     (tie.spec
-    first-due-requires
+    (λ c κs. search needs)
     returns
     whole-periods-requires
     add-jobs

@@ -7,45 +7,37 @@ use Rattle.fields.specs.Limits.{taskLimit}
 use Rattle.fields.specs.Values.{noTask}
 use borrow.Author.Needs.{needs}
 use lib.ListN.{getD}
-use mathlib.Core.Path.{refl}
+use mathlib.Core.Path.{_≡_, refl}
 use native.Mathlib.Omega.{arith}
 use Rattle.overruns.proofs.tasks.times_of.Tie as tie
 
 abbrev Inv-loop : tie.InvT-loop
-Inv-loop count tasks lengths₀ periods₀ dues₀ i₀ lengths periods dues i =
-    (i ≤ count)
+Inv-loop tasks lengths₀ periods₀ dues₀ i₀ lengths periods dues i =
+    (i ≤ taskLimit)
     × Stored (λ m. getD tasks m noTask .length .0) taskLimit lengths i
     × Stored (λ m. getD tasks m noTask .period .0) taskLimit periods i
     × Stored (λ m. firstDue (getD tasks m noTask)) taskLimit dues i
 
 abbrev μ-loop : tie.MeasureT-loop
-μ-loop count tasks lengths₀ periods₀ dues₀ i₀ lengths periods dues i = count - i
+μ-loop tasks lengths₀ periods₀ dues₀ i₀ lengths periods dues i = taskLimit - i
 
 loop-holds : tie.Need-loop-holds Inv-loop μ-loop
 loop-holds c = (omega arith, stored-none _ _, stored-none _ _, stored-none _ _)
 
--- the task of the turn is in the arrays
-few : (c : tie.In-loop Inv-loop μ-loop) → c .before .loop .i < taskLimit
-few c = omega (arith, c .before .before .pre .most)
-
-first-due-requires : tie.Need-first-due-requires Inv-loop μ-loop
-first-due-requires c κs =
-    let i = c .before in
-    omega (arith, i .before .before .pre .each (i .before .loop .i) (i .loop-test .taken) .jitter)
-
 loop-again : tie.Need-loop-again Inv-loop μ-loop
 loop-again c =
-    let i = c .before .before in
-    let l = i .before .loop in (
+    let l = c .before .before .before .loop in
+    let inside : l .i < taskLimit = omega arith in (
       omega arith,
-      stored-more _ _ _ _ _ (l .inv .1) (few i) refl,
-      stored-more _ _ _ _ _ (l .inv .2) (few i) refl,
-      stored-more _ _ _ _ _ (l .inv .3) (few i) (c .first-due .ensures),
+      stored-more _ _ _ _ _ (l .inv .1) inside refl,
+      stored-more _ _ _ _ _ (l .inv .2) inside refl,
+      stored-more _ _ _ _ _ (l .inv .3) inside (c .first-due .ensures),
     )
 
 returns : tie.Need-returns Inv-loop μ-loop
 returns c =
     let l = c .before .loop in
+    let all : l .i ≡ taskLimit = omega arith in
     record {
       lengths = λ i h. l .inv .1 .right i (omega arith);
       periods = λ i h. l .inv .2 .right i (omega arith);
@@ -60,16 +52,16 @@ times-of-spec =
     Inv-loop
     μ-loop
     loop-holds
-    (λ c. omega (arith, few c))
-    few
-    (λ c. omega (arith, few (c .before)))
-    (λ c. few (c .before))
-    (λ c. omega (arith, few (c .before)))
-    (λ c. few (c .before))
-    first-due-requires
-    (λ c. omega (arith, few (c .before .before)))
-    (λ c. few (c .before .before))
-    (λ c. omega (arith, few (c .before .before)))
-    (λ c. search needs)
+    (λ c. omega arith)
+    (λ c. omega arith)
+    (λ c. omega arith)
+    (λ c. omega arith)
+    (λ c. omega arith)
+    (λ c. omega arith)
+    (λ c κs. search needs)
+    (λ c. omega arith)
+    (λ c. omega arith)
+    (λ c. omega arith)
+    (λ c. omega arith)
     loop-again
     returns)
