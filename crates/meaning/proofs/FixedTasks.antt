@@ -1,4 +1,4 @@
--- Fixed demand: before and from a task's first deadline, that it counts the jobs that fall due, task after task, that it never falls, and how large it can be.
+-- Fixed demand: before and from when a task's first job falls due, that it counts the jobs that fall due, task after task, that it never falls, and how large it can be.
 use mathlib.Core.Path.{_≡_, refl, _∙_, sym, ap}
 use mathlib.Core.Logic.{⊎-elim}
 use mathlib.Core.Bool.{cond}

@@ -4,14 +4,14 @@ use mathlib.Core.List.{List, [], _∷_}
 use Prim.Native.Nat.{ℕ, zero, suc, _+_, _*_, _-_, _/_}
 use lib.Dec.{leb, ltb}
 
--- a task whose clock strikes a period apart, with one job at each stroke: it has the length, is due the deadline after the stroke, and is released up to the jitter after it
+-- a task whose clock strikes at least a period apart, with one job at each stroke: it has the length, is due the deadline after the stroke, and is released up to the jitter after it
 pub record Task : Type 0 where
   pub length : ℕ
   pub period : ℕ
   pub deadline : ℕ
   pub jitter : ℕ
 
--- fixed demand of one task at t: nothing while t and the jitter are below the deadline, then one length, and one more with each period; it is most for an interval that starts as a job is released as late as it can be
+-- fixed demand of one task at t: nothing while t and the jitter are below the deadline, then one length, and one more with each period; so much is asked for in an interval that starts as a job is released, as late as it can be, and no more in any other
 unfoldable pub fixedOf : Task → ℕ → ℕ
 fixedOf task t = cond (ltb (t + task .jitter) (task .deadline)) 0 (task .length * (1 + (t + task .jitter - task .deadline) / task .period))
 

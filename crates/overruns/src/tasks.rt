@@ -49,7 +49,7 @@ pub fn fixed_of(task: Task, t: usize) -> u64
     task.length.0 as u64 * jobs as u64
 }
 
-// When a task's first job falls due: an interval that starts as it is released, as late as it can be, has its deadline the jitter sooner.
+// When a task's first job falls due: in an interval that starts as it is released, as late as it can be, the deadline less the jitter after the start.
 // The test is for what an array holds past the tasks that are counted, of which nothing is known.
 pub fn first_due(deadline: Ticks, jitter: Ticks) -> usize
     ensures { λ r. ⌜ r ≡ deadline .0 - jitter .0 ⌝ }

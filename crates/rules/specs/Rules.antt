@@ -120,7 +120,7 @@ rowRules tally row zeroGap shortGap =
     ∷ 10 when shortGap
     ∷ []
 
--- the rules of a fixed task's numbers; the last: a jitter at or above the deadline
+-- the rules of a fixed task's numbers; the last, a jitter at or above the deadline, is broken by a deadline of 0 too, which has a rule of its own as in a row
 unfoldable pub taskRules : Task → List Rule
 taskRules task =
     7 when (noTicks (task .length))

@@ -67,7 +67,7 @@ pub fn next_fixed_rise(
     next
 }
 
-// The same for the demand of one fixed task, which rises where a job of it falls due: its first one, and a period after each before.
+// The same for the demand of one fixed task, which rises where its first job falls due, and a period after each one.
 fn next_due(task: Task, horizon: usize, from: usize) -> usize
     requires { ⌜ ProperTask task ⌝ }
     requires { ⌜ horizon ≤ longestTime ⌝ }

@@ -85,8 +85,8 @@ whole-numbers : (tag size : ℕ) → wrongLength tag size ≡ false → pick (li
 unfolding wrongLength
 whole-numbers tag size e = neither _ _ (neither _ _ e .1) .1
 
-with-last : (tag size others : ℕ) → lineOf tag .numbers ≡ true → lineOf tag .shortest ≡ gapSize * others → lineOf tag .longest ≡ gapSize * others + gapSize
-    → wrongLength tag size ≡ false → (size ≡ gapSize * others → ⊥) → size ≡ gapSize * others + gapSize
+with-last : (tag size others : ℕ) → lineOf tag .numbers ≡ true → lineOf tag .shortest ≡ 2 * others → lineOf tag .longest ≡ 2 * others + 2
+    → wrongLength tag size ≡ false → (size ≡ 2 * others → ⊥) → size ≡ 2 * others + 2
 unfolding pick
 with-last tag size others numbers short long right more =
     let even : size % 2 ≡ 0 = eqb-true _ _ (not-false _ (rw numbers at (whole-numbers tag size right))) in
@@ -189,7 +189,7 @@ module _ (bytes : List ℕ) (fit : Bytes bytes) where
         let same : eqb (wordAt bytes (start + modeSize)) (wordAt bytes start) ≡ true = rw six at has in
         rw (six, same) (two-numbers (omega arith))
 
-    -- so it is with a fixed task's content, and else with its first three numbers
+    -- a fixed task's content likewise, and where a shorter field says the same, its first three numbers
     pub task-content : wrongLength 4 size ≡ false → hasShorter bytes TaskField start size ≡ false → take size (drop start bytes) ≡ contentOf (TaskEntry (taskAt bytes start size))
     unfolding contentOf taskNumbers lineOf fields pick
     task-content right needed =
