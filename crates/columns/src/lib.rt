@@ -17,7 +17,7 @@ use rules::text::text_number;
 use tasks::tasks_number;
 
 // The number of the first broken rule of a stretch of entries, 0 where none is broken, and then the tally behind them.
-#[derive(Drop)]
+#[derive(Clone, Copy)]
 pub struct Counted {
     pub number: u8,
     pub tally: Tally,

@@ -13,7 +13,7 @@ use rules::counting::count_row;
 use rules::{common_number, row_number, unknown_in, unlike_set};
 
 // What is seen of a row's gaps: whether one is 0, and whether one is below the deadline.
-#[derive(Drop)]
+#[derive(Clone, Copy)]
 struct Look {
     zero: bool,
     short: bool,

@@ -13,7 +13,7 @@ use sheet::outline_of;
 use sheet::rows::row_at;
 
 // A row's speed, deadline and follower set, and its job length.
-#[derive(Drop)]
+#[derive(Clone, Copy)]
 pub struct RowValues {
     pub speed: Rpm,
     pub deadline: Ticks,

@@ -11,28 +11,28 @@ use sheet::Answer;
 use tables::Table;
 
 // The demand at an interval, and how many rows its witness has.
-#[derive(Drop)]
+#[derive(Clone, Copy)]
 pub enum DemandAnswer {
     Found { amount: u32, count: usize },
     Refused { number: u8, place: usize },
 }
 
 // The margin at an interval, below 0 where it is overrun.
-#[derive(Drop)]
+#[derive(Clone, Copy)]
 pub enum MarginAnswer {
     Found { margin: i64 },
     Refused { number: u8, place: usize },
 }
 
 // The shortest interval for an amount.
-#[derive(Drop)]
+#[derive(Clone, Copy)]
 pub enum ShortestAnswer {
     Found { time: u32 },
     Refused { number: u8, place: usize },
 }
 
 // Whether every interval up to a horizon is met, or the first that is overrun.
-#[derive(Drop)]
+#[derive(Clone, Copy)]
 pub enum VerdictAnswer {
     Holds,
     Overrun { interval: u64 },

@@ -11,7 +11,7 @@ use fields::values::Sheet;
 use sheet::Answer;
 
 // Which part exceeds an interval: the engine task alone, the fixed tasks alone, or only both together. Where each alone does, it is the engine.
-#[derive(Drop)]
+#[derive(Clone, Copy)]
 pub enum Cause {
     Engine,
     Fixed,
@@ -19,7 +19,7 @@ pub enum Cause {
 }
 
 // Why a verdict holds or fails. `Holds` has the smallest margin and the earliest interval that has it; `NoInterval` has neither, since the horizon is 0. `Fails` has the first interval that is overrun, its cause, the engine's demand there, what is too much, and how many rows the witness has.
-#[derive(Drop)]
+#[derive(Clone, Copy)]
 pub enum ExplainAnswer {
     Holds {
         margin: u64,

@@ -9,7 +9,7 @@ use overruns::tasks::{advance, times_of};
 use tables::interval::demand_of;
 
 // There is no interval; the smallest margin and the first interval that has it; or the first interval that is overrun, with fixed demand there.
-#[derive(Drop)]
+#[derive(Clone, Copy)]
 pub(crate) enum Tightest {
     Nothing,
     Margin { margin: u64, interval: usize },

@@ -30,7 +30,7 @@ impl<'a> Reader<'a> {
 }
 
 // What a step tells, and the place after it.
-#[derive(Drop)]
+#[derive(Clone, Copy)]
 struct Taken {
     step: Step,
     after: usize,

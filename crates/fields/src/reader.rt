@@ -5,7 +5,7 @@ ghost use Rattle.fields.specs.Reading.{word_at, long_at, field_at};
 use crate::table::{Kind, kind_of, refused_tag};
 
 // A field's kind, where its content starts, how many bytes it has and where the next field starts; or a refusal's number and place.
-#[derive(Drop)]
+#[derive(Clone, Copy)]
 pub enum Step {
     Field {
         kind: Kind,

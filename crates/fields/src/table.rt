@@ -6,7 +6,7 @@ use crate::values::Sheet;
 
 // A line of the field table: shortest and longest content in bytes, how many such fields a sheet may have, whether one is required, and
 // whether the content is numbers of two bytes each.
-#[derive(Drop)]
+#[derive(Clone, Copy)]
 pub struct Line {
     pub shortest: usize,
     pub longest: usize,
@@ -15,7 +15,7 @@ pub struct Line {
     pub numbers: bool,
 }
 
-#[derive(Drop)]
+#[derive(Clone, Copy)]
 pub enum Kind {
     RefusedTag,
     LabelField,

@@ -2,11 +2,11 @@
 ghost use Rattle.std.specs.Prelude.{◌≡◌, eqb, leb, ltb};
 
 // A speed in revolutions per minute.
-#[derive(Drop)]
+#[derive(Clone, Copy)]
 pub struct Rpm(pub u16);
 
 // A time in ticks of 10 microseconds.
-#[derive(Drop)]
+#[derive(Clone, Copy)]
 pub struct Ticks(pub u16);
 
 impl Rpm {

@@ -5,7 +5,7 @@ ghost use Rattle.fields.specs.Values.{empty_sheet, short_size, short_task_size};
 use crate::units::{Rpm, Ticks};
 
 // A part of the file: where it starts and how many bytes it has.
-#[derive(Drop)]
+#[derive(Clone, Copy)]
 pub struct Part {
     pub start: usize,
     pub size: usize,
@@ -17,7 +17,7 @@ impl Part {
 }
 
 // The job length of speeds up to a boundary, and the fall-back: down to it an engine that slows down can still be in the next mode.
-#[derive(Drop)]
+#[derive(Clone, Copy)]
 pub struct Mode {
     pub boundary: Rpm,
     pub length: Ticks,
@@ -45,7 +45,7 @@ impl Mode {
 }
 
 // A speed, its deadline, the set of rows that may follow, and the place in the file of the gaps to them.
-#[derive(Drop)]
+#[derive(Clone, Copy)]
 pub struct Row {
     pub speed: Rpm,
     pub deadline: Ticks,
@@ -63,7 +63,7 @@ impl Row {
 }
 
 // A fixed-period task. Each of its jobs is released up to the jitter after its clock.
-#[derive(Drop)]
+#[derive(Clone, Copy)]
 pub struct Task {
     pub length: Ticks,
     pub period: Ticks,
@@ -92,7 +92,7 @@ impl Task {
 }
 
 // What the rules know of the fields before: the last known tag, how many of each kind, the last boundary with its fall-back, and the last speed.
-#[derive(Drop)]
+#[derive(Clone, Copy)]
 pub struct Tally {
     pub last: usize,
     pub modes: usize,

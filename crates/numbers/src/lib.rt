@@ -9,7 +9,7 @@ use sheet::{Answer, Outline};
 
 // In each of them `number` is 0, or the refusal's number with its place, and then all else is 0.
 #[repr(C)]
-#[derive(Drop)]
+#[derive(Clone, Copy)]
 pub struct JudgeForC {
     pub number: u8,
     pub place: usize,
@@ -19,14 +19,14 @@ pub struct JudgeForC {
 }
 
 #[repr(C)]
-#[derive(Drop)]
+#[derive(Clone, Copy)]
 pub struct LabelForC {
     pub start: usize,
     pub size: usize,
 }
 
 #[repr(C)]
-#[derive(Drop)]
+#[derive(Clone, Copy)]
 pub struct FieldForC {
     pub number: u8,
     pub place: usize,
@@ -37,7 +37,7 @@ pub struct FieldForC {
 }
 
 #[repr(C)]
-#[derive(Drop)]
+#[derive(Clone, Copy)]
 pub struct DemandForC {
     pub number: u8,
     pub place: usize,
@@ -46,7 +46,7 @@ pub struct DemandForC {
 }
 
 #[repr(C)]
-#[derive(Drop)]
+#[derive(Clone, Copy)]
 pub struct MarginForC {
     pub number: u8,
     pub place: usize,
@@ -54,7 +54,7 @@ pub struct MarginForC {
 }
 
 #[repr(C)]
-#[derive(Drop)]
+#[derive(Clone, Copy)]
 pub struct ShortestForC {
     pub number: u8,
     pub place: usize,
@@ -62,7 +62,7 @@ pub struct ShortestForC {
 }
 
 #[repr(C)]
-#[derive(Drop)]
+#[derive(Clone, Copy)]
 pub struct VerdictForC {
     pub number: u8,
     pub place: usize,

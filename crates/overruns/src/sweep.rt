@@ -12,7 +12,7 @@ use tables::amount::shortest_of;
 use tables::interval::demand_of;
 
 // No interval from 1 to the horizon is overrun, or this is the first.
-#[derive(Drop)]
+#[derive(Clone, Copy)]
 pub enum Swept {
     Holds,
     Overrun(usize),

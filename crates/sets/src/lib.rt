@@ -6,7 +6,7 @@ ghost use Rattle.sets.specs.Sets.{width, below, next_in};
 pub const WIDTH: usize = 64;
 
 // What a search from a place finds: a row, or that no row is left.
-#[derive(Drop)]
+#[derive(Clone, Copy)]
 pub enum Next {
     At(usize),
     Nothing,

@@ -13,7 +13,7 @@ use fields::values::{Mode, Part, Sheet, Tally, Task};
 use judging::{field_number, keep_place, outline_end, refused, with_field};
 use rows::rows_at;
 
-#[derive(Drop)]
+#[derive(Clone, Copy)]
 pub enum Answer {
     Accepted,
     Refused { number: u8, place: usize },
@@ -27,7 +27,7 @@ pub struct Judged {
 }
 
 // All of a sheet but its rows.
-#[derive(Drop)]
+#[derive(Clone, Copy)]
 pub struct Head {
     pub label: Part,
     pub tally: Tally,

@@ -3,7 +3,7 @@ pub mod amount;
 pub mod interval;
 
 // Which table cells hold.
-#[derive(Drop)]
+#[derive(Clone, Copy)]
 pub enum Table {
     Interval,
     Amount,

@@ -8,7 +8,7 @@ use desk::{DemandAnswer, MarginAnswer, demand, margin};
 use printing::{print_head, print_number, print_refusal, print_rows};
 
 // A margin as it is printed: so much is left of the interval, or so much is missing.
-#[derive(Drop)]
+#[derive(Clone, Copy)]
 pub(crate) enum Signed {
     Spare(u64),
     Missing(u64),

@@ -16,7 +16,7 @@ use sheet::rows::row_at;
 use tables::interval::{added, demand_of, gap_at};
 
 // Where a witness stands: at a row, with the time and the work that are left from it on.
-#[derive(Drop)]
+#[derive(Clone, Copy)]
 pub struct Stand {
     pub row: usize,
     pub left: usize,
@@ -24,7 +24,7 @@ pub struct Stand {
 }
 
 // How many rows a witness has that was written, or that it does not fit its area.
-#[derive(Drop)]
+#[derive(Clone, Copy)]
 pub enum Shown {
     Rows(usize),
     TooLong,

@@ -4,7 +4,7 @@ ghost use Rattle.words.specs.Numbers.{Says};
 ghost use Rattle.words.specs.Questions.{Names};
 
 // The questions that a sheet can be asked from the command line.
-#[derive(Drop)]
+#[derive(Clone, Copy)]
 pub enum Question {
     Fits,
     Curve,
@@ -14,7 +14,7 @@ pub enum Question {
 }
 
 // Which question a word is the name of, or that it is none's.
-#[derive(Drop)]
+#[derive(Clone, Copy)]
 pub enum Asked {
     Question(Question),
     NoQuestion,
@@ -24,7 +24,7 @@ pub enum Asked {
 pub const LETTERS: usize = 8;
 
 // Which number a word is, or that it is none.
-#[derive(Drop)]
+#[derive(Clone, Copy)]
 pub enum Word {
     Number { value: u64 },
     NoNumber,

@@ -11,7 +11,7 @@ use fields::values::Sheet;
 use putting::put_sheet;
 
 // How many bytes the sheet has that was written, or why none was.
-#[derive(Drop)]
+#[derive(Clone, Copy)]
 pub enum WriteAnswer {
     Written { size: usize },
     Refused { number: u8, place: usize },

@@ -8,7 +8,7 @@ use writer::WriteAnswer;
 
 // `number` is 0, or the refusal's number with its place, and then `size` is 0.
 #[repr(C)]
-#[derive(Drop)]
+#[derive(Clone, Copy)]
 pub struct WriteForC {
     pub number: u8,
     pub place: usize,
@@ -16,7 +16,7 @@ pub struct WriteForC {
 }
 
 #[repr(C)]
-#[derive(Drop)]
+#[derive(Clone, Copy)]
 pub struct ModeForC {
     pub boundary: u16,
     pub length: u16,
@@ -24,7 +24,7 @@ pub struct ModeForC {
 }
 
 #[repr(C)]
-#[derive(Drop)]
+#[derive(Clone, Copy)]
 pub struct RowForC {
     pub speed: u16,
     pub deadline: u16,
@@ -33,7 +33,7 @@ pub struct RowForC {
 }
 
 #[repr(C)]
-#[derive(Drop)]
+#[derive(Clone, Copy)]
 pub struct TaskForC {
     pub length: u16,
     pub period: u16,
