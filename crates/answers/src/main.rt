@@ -1,4 +1,6 @@
 // The program: reads a sheet from standard input and answers the question that its arguments ask, with the number that they ask it with.
+#![tactic(auto)]
+
 mod lending;
 
 use fields::values::Sheet;

@@ -1,4 +1,6 @@
 // The program: reads a sheet from standard input and prints where the engine's demand rises, and the verdict, up to the horizon that fits its cells.
+#![tactic(auto)]
+
 ghost use Rattle.std.specs.Prelude.{◌≤◌, ◌≡◌};
 ghost use Rattle.fields.specs.Limits.{row_limit};
 ghost use Rattle.sheet.specs.Judging.{judged};

@@ -1,4 +1,6 @@
 // The lines that programs print on standard output: a curve with its verdict, a refusal, a witness, and words with numbers.
+#![tactic(auto)]
+
 ghost use Rattle.std.specs.Prelude.{◌+◌, ◌*◌, ◌≤◌, length};
 ghost use Rattle.meaning.specs.Demand.{longest_time};
 ghost use Rattle.printing.specs.Showing.{ShowsCurve};

@@ -1,4 +1,6 @@
 // What is printed for the question whether a sheet holds up to a horizon, and why, in cells and an area that are lent.
+#![tactic(auto)]
+
 ghost use Rattle.std.specs.Prelude.{◌≤◌, ◌≡◌, length};
 ghost use Rattle.meaning.specs.Demand.{longest_time};
 ghost use Rattle.fields.specs.Limits.{task_limit};
