@@ -76,7 +76,7 @@ loop-i-preserved c =
     let a = b.args in (
       omega (arith, c.loop-i-test.true),
       omega (arith, l.invariant.1),
-      rw l.invariant.1 (put_more a.n a.line a.k a.t5 a.cells.now l.cells l.i b.requires.k_lt_n (omega (arith, within, l.invariant.1)) l.invariant.2),
+      rw l.invariant.1 (put_more a.n a.line a.k a.column a.cells.now l.cells l.i b.requires.k_lt_n (omega (arith, within, l.invariant.1)) l.invariant.2),
     )
 
 pub shape_of-cells : goal.shape_of-cells

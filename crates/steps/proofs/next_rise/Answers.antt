@@ -19,7 +19,7 @@ demand_of-last-requires c =
     lines_upto _ b.args.rows b.args.horizon (b.args.from - 1) (omega (arith, b.requires.le_from)) b.requires.horizon_in_bounds
 
 pub loop-interval-init : goal.loop-interval-init
-loop-interval-init c = (omega arith, c.requires.le_from.1, c.demand_of_lem.ensures, λ passed a b. absurd (omega arith))
+loop-interval-init c = (omega arith, c.requires.le_from.1, c.demand_of-last.ensures, λ passed a b. absurd (omega arith))
 
 pub demand_of-amount-requires : goal.demand_of-amount-requires
 demand_of-amount-requires c =

@@ -24,7 +24,7 @@ gap_at-gap-requires c =
     lead_follows _ _ _ b.requires.proper_row (set-fits) b.args.cells.now _ _ (wanted) _ (found) c.next_row-next.ensures in
     let next = c.before.before in
     let b = next.before.before.before.before in
-    omega (arith, c.before.Below-row.ensures.0, gap_inside _ _ _ b.requires.proper_row (set-fits) next.next_row-next.result (follows))
+    omega (arith, c.below_row.ensures.value, gap_inside _ _ _ b.requires.proper_row (set-fits) next.next_row-next.result (follows))
 
 pub overflow_sub-result : goal.overflow_sub-result
 unfolding onward_of
@@ -41,14 +41,13 @@ overflow_sub-result c =
     let next = c.before.before.before in
     let a = next.args in
     ap (λ r. r.0) c.gap_at-gap.ensures
-    ∙ ap (λ (x : ℕ). word_at a.bytes.now (a.row.gaps + gap_size * x)) c.before.before.Below-row.ensures.0
+    ∙ ap (λ (x : ℕ). word_at a.bytes.now (a.row.gaps + gap_size * x)) c.below_row.ensures.value
     ∙ sym (gap_of_follower a.bytes.now a.row _ (follows)) in
     let next = c.before.before.before.before in
     let b = next.before.before.before.before in
     rw (gap_is) (leads_on _ (gap_of b.args.bytes.now b.args.row) (cell_at b.args.n b.args.cells.now) _ _ (wanted) _ (found) next.next_row-next.ensures).1
 
 pub returns : goal.returns
-unfolding onward_of
 unfolding onward_of
 returns c =
     let set-fits : c.args.row.followers < 2 ^ 64 = omega (arith, c.well-formed.1.1.0) in
@@ -63,5 +62,5 @@ returns c =
     let next = c.before.before.before in
     let a = next.args in
     ap (λ r. r.0) c.gap_at-gap.ensures
-    ∙ ap (λ (x : ℕ). word_at a.bytes.now (a.row.gaps + gap_size * x)) c.before.before.Below-row.ensures.0
+    ∙ ap (λ (x : ℕ). word_at a.bytes.now (a.row.gaps + gap_size * x)) c.below_row.ensures.value
     ∙ sym (gap_of_follower a.bytes.now a.row _ (follows)) in rw (gap_is, c.next_row-next.ensures)

@@ -40,12 +40,12 @@ show_witness-requires c =
 answered : (c : goal.After-show_witness) (shown : Shown) → c.show_witness.result ≡ shown →
     let a = c.args in
     let filled = c.fill.new.cells in
-    DemandAnswers a.bytes.now a.t a.cells.now a.area.now (demand_as c.before.before.before.before.demand_of_lem.result shown) filled c.show_witness.new.area
+    DemandAnswers a.bytes.now a.t a.cells.now a.area.now (demand_as c.demand_of-amount.result shown) filled c.show_witness.new.area
 answered c shown e =
     let s = c.before.before.before.before.before.before.before.before.before.before.before.before.before.before.before.before in
     let a = s.args in
     let f = c.fill in
-    let amount = c.before.before.before.before.demand_of_lem in
+    let amount = c.demand_of-amount in
     let w = c.show_witness in
     let area = w.new.area in
     subst (λ (x : Shown). DemandAnswers a.bytes.now a.t a.cells.now a.area.now (demand_as amount.result x) f.new.cells area) e

@@ -52,7 +52,7 @@ returns c =
     let s = c.before.before.before.before.before.before.before.before.before.before.before.before.before in
     subst (λ (x : ℕ). x < 2 ^ 48) (sym c.fixed_sum-fixed.ensures) (tasks_fit _ _ (tasks_proper _ _ _ s.requires.handed) _ s.requires.t_le_longest_time) in
     let s = c.before.before.before.before.before.before.before.before.before.before.before.before.before.before in
-    let amount = c.before.before.before.demand_of_lem in
+    let amount = c.demand_of-amount in
     let fixed = c.fixed_sum-fixed in
     let small : s.args.t < 2 ^ 63 = omega arith in
     let sum : amount.result + fixed.result < 2 ^ 63 = omega (arith, sum_fits) in

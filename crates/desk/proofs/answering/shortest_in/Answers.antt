@@ -23,11 +23,11 @@ returns-then-time c =
     let room : c.args.head.tally.rows * c.args.amount ≤ length c.args.cells.now = room_told _ _ _ c.requires.handed c.args.amount c.args.cells.now c.requires.amount_in_bounds in
     let s = c.before.before.before.before.before.before.before.before.before.before.before.before in
     shortest_answers _ _ _ s.requires.handed _ s.requires.le_amount _ _ (room) c.fill.ensures
-    _ _ c.before.shortest_of_lem.ensures (gives_none _ c.if-time.true)
+    _ _ c.shortest_of-time.ensures (gives_none _ c.if-time.true)
 
 pub returns : goal.returns
 returns c =
     let room : c.args.head.tally.rows * c.args.amount ≤ length c.args.cells.now = room_told _ _ _ c.requires.handed c.args.amount c.args.cells.now c.requires.amount_in_bounds in
     let s = c.before.before.before.before.before.before.before.before.before.before.before.before in
     shortest_answers _ _ _ s.requires.handed _ s.requires.le_amount _ _ (room) c.fill.ensures
-    _ _ c.before.shortest_of_lem.ensures (gives_time _ c.if-time.false)
+    _ _ c.shortest_of-time.ensures (gives_time _ c.if-time.false)

@@ -40,11 +40,11 @@ pub loop-i-preserved : goal.loop-i-preserved
 loop-i-preserved c =
     let s = c.before.before.before.before in
     let l = c.loop-i in
-    (omega arith, demand_more s.args.t1 s.args.count s.requires.proper_tasks s.args.t _ l.i _ c.loop-i-test.true l.invariant.1 c.fixed_of.ensures.0)
+    (omega arith, demand_more s.args.tasks s.args.count s.requires.proper_tasks s.args.t _ l.i _ c.loop-i-test.true l.invariant.1 c.fixed_of.ensures.0)
 
 pub returns : goal.returns
 returns c =
     let s = c.before.before in
     let l = c.loop-i in
     let all : l.i ≡ s.args.count = omega arith in
-    l.invariant.1 ∙ demands_whole s.args.t1 s.args.count s.requires.proper_tasks s.args.t l.i all
+    l.invariant.1 ∙ demands_whole s.args.tasks s.args.count s.requires.proper_tasks s.args.t l.i all

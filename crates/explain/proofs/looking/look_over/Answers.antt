@@ -69,19 +69,19 @@ returns-then-t-work c =
     let begun : Running (counted_tasks a.tasks a.count) times.lengths times.periods times.dues 0 0 = running_start _ _ c.requires.proper_tasks _ c.times_of-times.ensures in
     let i = c.before.before.before.before.before.before in
     let s = i.before.before.before.before.before.before.before in
-    λ g sound is lines. looking_overrun _ _ _ _ _ _ _ _ _ _ _ _ i.loop-t.invariant _ _ c.advance-fixed.ensures _ c.before.demand_of_lem.ensures
+    λ g sound is lines. looking_overrun _ _ _ _ _ _ _ _ _ _ _ _ i.loop-t.invariant _ _ c.advance-fixed.ensures _ c.demand_of.ensures
     i.loop-t-test.true (omega (arith, c.if-t-work.true)) _ _ (counted) (begun) (table_decides Interval g sound _ is _ _ _ s.requires.horizon_le_longest_time lines)
 
 pub loop-t-preserved-then-margin-least : goal.loop-t-preserved-then-margin-least
 loop-t-preserved-then-margin-least c =
     let i = c.before.before.before.before.before.before.before in
-    looking_smaller _ _ _ _ _ _ _ _ _ _ _ _ i.loop-t.invariant _ _ c.advance-fixed.ensures _ c.before.before.demand_of_lem.ensures
+    looking_smaller _ _ _ _ _ _ _ _ _ _ _ _ i.loop-t.invariant _ _ c.advance-fixed.ensures _ c.demand_of.ensures
     i.loop-t-test.true (omega (arith, c.if-t-work.false)) (omega (arith, c.if-margin-least.true))
 
 pub loop-t-preserved : goal.loop-t-preserved
 loop-t-preserved c =
     let i = c.before.before.before.before.before.before.before in
-    looking_kept _ _ _ _ _ _ _ _ _ _ _ _ i.loop-t.invariant _ _ c.advance-fixed.ensures _ c.before.before.demand_of_lem.ensures
+    looking_kept _ _ _ _ _ _ _ _ _ _ _ _ i.loop-t.invariant _ _ c.advance-fixed.ensures _ c.demand_of.ensures
     i.loop-t-test.true (omega (arith, c.if-t-work.false)) (omega (arith, c.if-margin-least.false))
 
 pub returns : goal.returns
