@@ -15,26 +15,22 @@ use Rattle.desk.proofs.answering.demand_in.Goals as goal
 pub fill-requires : goal.fill-requires
 fill-requires c =
     let room : c.args.head.tally.rows * (c.args.t + 1) ≤ length c.args.cells.now = room_told _ _ _ c.requires.handed (c.args.t + 1) c.args.cells.now c.requires.t_in_bounds in
-    let s = c.before.before.before.before.before.before.before in
-    record { laid = c.job_lengths-lengths.ensures; lines_bound = omega (arith, s.requires.t_le_longest_time); lines_in_bounds = room }
+    record { laid = c.job_lengths-lengths.ensures; lines_bound = omega (arith, c.requires.t_le_longest_time); lines_in_bounds = room }
 
 pub demand_of-amount-requires : goal.demand_of-amount-requires
 demand_of-amount-requires c =
     let room : c.args.head.tally.rows * (c.args.t + 1) ≤ length c.args.cells.now = room_told _ _ _ c.requires.handed (c.args.t + 1) c.args.cells.now c.requires.t_in_bounds in
     let a = c.args in
     let table : HasLines a.head.tally.rows (ByInterval (graph a.bytes.now)) c.fill.new.cells (a.t + 1) =
-    let s = c.before.before.before.before.before.before.before.before in
-    lines_told _ _ _ s.requires.handed _ _ _ (room) c.fill.ensures in (table).room
+    lines_told _ _ _ c.requires.handed _ _ _ (room) c.fill.ensures in (table).room
 
 pub show_witness-requires : goal.show_witness-requires
 show_witness-requires c =
     let room : c.args.head.tally.rows * (c.args.t + 1) ≤ length c.args.cells.now = room_told _ _ _ c.requires.handed (c.args.t + 1) c.args.cells.now c.requires.t_in_bounds in
     let a = c.args in
     let table : HasLines a.head.tally.rows (ByInterval (graph a.bytes.now)) c.fill.new.cells (a.t + 1) =
-    let s = c.before.before.before.before.before.before.before.before in
-    lines_told _ _ _ s.requires.handed _ _ _ (room) c.fill.ensures in
-    let s = c.before.before.before.before.before.before.before.before.before.before.before.before.before.before.before in
-    record { laid = c.job_lengths-lengths.ensures; t_le_longest_time = s.requires.t_le_longest_time; has_lines = table }
+    lines_told _ _ _ c.requires.handed _ _ _ (room) c.fill.ensures in
+    record { laid = c.job_lengths-lengths.ensures; t_le_longest_time = c.requires.t_le_longest_time; has_lines = table }
 
 -- what is answered with the witness as it is shown
 answered : (c : goal.After-show_witness) (shown : Shown) → c.show_witness.result ≡ shown →
@@ -52,7 +48,7 @@ answered c shown e =
     (demand_shown _ _ _ s.requires.handed _ _ _ (room s) f.ensures _ a.area.now area w.result amount.ensures w.ensures)
 
 pub returns-in-Rows : goal.returns-in-Rows
-returns-in-Rows c = answered c.before.before.before.before.before _ c.in-Rows.is
+returns-in-Rows c = answered c _ c.in-Rows.is
 
 pub returns-in-TooLong : goal.returns-in-TooLong
-returns-in-TooLong c = answered c.before.before.before.before _ c.in-TooLong.is
+returns-in-TooLong c = answered c _ c.in-TooLong.is

@@ -19,8 +19,7 @@ returns-in-TooLong c =
 
 pub returns-in-Rows : goal.returns-in-Rows
 returns-in-Rows c =
-    let s = c.before.before.before.before.before.before.before in
-    let a = s.args in
+    let a = c.args in
     let cause = c.cause_of-cause in
     numbers_told a.n a.tasks a.count a.cells.now a.t a.fixed _ cause.result a.shown c.demand_of-engine.ensures cause.ensures
-    _ _ c.in-Rows.is s.requires.fixed_value c.demands_at.ensures
+    _ _ c.in-Rows.is c.requires.fixed_value c.demands_at.ensures
