@@ -21,7 +21,7 @@ returns-then-longest-lines c =
 pub returns-else-longest-lines : goal.returns-else-longest-lines
 returns-else-longest-lines c =
     let lines = c.args.cells / c.args.rows in
-    let some : 1 ≤ lines = sub-result c in
+    let some : 1 ≤ lines = fit_lines c.args.cells c.args.rows 1 c.requires.le_rows (omega (arith, c.requires.rows_le_cells)) in
     record {
       in_range = omega (arith, c.if-longest-lines.false);
       fits = lines_fit c.args.cells c.args.rows (lines - 1 + 1) c.requires.le_rows (omega (arith, some));

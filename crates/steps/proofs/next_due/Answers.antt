@@ -27,14 +27,14 @@ returns c =
 
 pub overflow_add-jobs : goal.overflow_add-jobs
 overflow_add-jobs c =
-    omega (arith, div-le_self (c.args.from - c.first_due-first.result - 1) c.args.task.period.0, c.requires.1)
+    omega (arith, div-le_self (c.args.from - c.first_due-first.result - 1) c.args.task.period.0, c.requires.horizon_le_longest_time, c.requires.le_from)
 
 pub overflow_mul-jobs : goal.overflow_mul-jobs
 overflow_mul-jobs c =
     let left = c.args.from - c.first_due-first.result - 1 in
-    let passed : left / c.args.task.period.0 * c.args.task.period.0 ≤ left = div-mul-le_self _ _ in omega (arith, passed, c.requires.1)
+    let passed : left / c.args.task.period.0 * c.args.task.period.0 ≤ left = div-mul-le_self _ _ in omega (arith, passed, c.requires.horizon_le_longest_time, c.requires.le_from)
 
 pub overflow_add-first : goal.overflow_add-first
 overflow_add-first c =
     let left = c.args.from - c.first_due-first.result - 1 in
-    let passed : left / c.args.task.period.0 * c.args.task.period.0 ≤ left = div-mul-le_self _ _ in omega (arith, passed, c.requires.1)
+    let passed : left / c.args.task.period.0 * c.args.task.period.0 ≤ left = div-mul-le_self _ _ in omega (arith, passed, c.requires.horizon_le_longest_time, c.requires.le_from)

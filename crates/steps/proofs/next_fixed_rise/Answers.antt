@@ -25,7 +25,11 @@ offset_bounds-tasks-i c =
 
 pub next_due-requires : goal.next_due-requires
 next_due-requires c =
-    (c.requires.proper_tasks.each c.loop-i.i c.loop-i-test.true, c.requires.1)
+    record {
+      proper_task = c.requires.proper_tasks.each c.loop-i.i c.loop-i-test.true;
+      horizon_le_longest_time = c.requires.horizon_le_longest_time;
+      le_from = c.requires.le_from;
+    }
 
 pub loop-i-preserved : goal.loop-i-preserved
 loop-i-preserved c =

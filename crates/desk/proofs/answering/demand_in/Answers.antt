@@ -32,23 +32,24 @@ show_witness-requires c =
     lines_told _ _ _ c.requires.handed _ _ _ (room) c.fill.ensures in
     record { laid = c.job_lengths-lengths.ensures; t_le_longest_time = c.requires.t_le_longest_time; has_lines = table }
 
--- what is answered with the witness as it is shown
-answered : (c : goal.After-show_witness) (shown : Shown) → c.show_witness.result ≡ shown →
+pub returns-in-Rows : goal.returns-in-Rows
+returns-in-Rows c =
+    let room : c.args.head.tally.rows * (c.args.t + 1) ≤ length c.args.cells.now = room_told _ _ _ c.requires.handed (c.args.t + 1) c.args.cells.now c.requires.t_in_bounds in
     let a = c.args in
-    let filled = c.fill.new.cells in
-    DemandAnswers a.bytes.now a.t a.cells.now a.area.now (demand_as c.demand_of-amount.result shown) filled c.show_witness.new.area
-answered c shown e =
-    let s = c.before.before.before.before.before.before.before.before.before.before.before.before.before.before.before.before in
-    let a = s.args in
     let f = c.fill in
     let amount = c.demand_of-amount in
     let w = c.show_witness in
     let area = w.new.area in
-    subst (λ (x : Shown). DemandAnswers a.bytes.now a.t a.cells.now a.area.now (demand_as amount.result x) f.new.cells area) e
-    (demand_shown _ _ _ s.requires.handed _ _ _ (room s) f.ensures _ a.area.now area w.result amount.ensures w.ensures)
-
-pub returns-in-Rows : goal.returns-in-Rows
-returns-in-Rows c = answered c _ c.in-Rows.is
+    subst (λ (x : Shown). DemandAnswers a.bytes.now a.t a.cells.now a.area.now (demand_as amount.result x) f.new.cells area) c.in-Rows.is
+    (demand_shown _ _ _ c.requires.handed _ _ _ room f.ensures _ a.area.now area w.result amount.ensures w.ensures)
 
 pub returns-in-TooLong : goal.returns-in-TooLong
-returns-in-TooLong c = answered c _ c.in-TooLong.is
+returns-in-TooLong c =
+    let room : c.args.head.tally.rows * (c.args.t + 1) ≤ length c.args.cells.now = room_told _ _ _ c.requires.handed (c.args.t + 1) c.args.cells.now c.requires.t_in_bounds in
+    let a = c.args in
+    let f = c.fill in
+    let amount = c.demand_of-amount in
+    let w = c.show_witness in
+    let area = w.new.area in
+    subst (λ (x : Shown). DemandAnswers a.bytes.now a.t a.cells.now a.area.now (demand_as amount.result x) f.new.cells area) c.in-TooLong.is
+    (demand_shown _ _ _ c.requires.handed _ _ _ room f.ensures _ a.area.now area w.result amount.ensures w.ensures)
