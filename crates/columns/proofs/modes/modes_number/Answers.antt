@@ -1,9 +1,7 @@
 -- `modes_number` meets its contract. The modes that are left decide as all of them do.
-use Prim.Native.Nat.{◌+◌, ◌-◌, ◌≤◌, min}
+use Prim.Native.Nat.{◌+◌}
 use native.Mathlib.Omega.{arith}
-use mathlib.Core.Path.{◌≡◌}
 use mathlib.Core.List.{◌∷◌}
-use lib.ListN.{length}
 use borrow.Author.Rules.{rules}
 use Rattle.written.specs.Judging.{count_entry}
 use Rattle.written.specs.Values.{mode_entries}

@@ -1,15 +1,9 @@
-use Prim.Native.Nat.{◌+◌, ◌-◌, ◌≤◌, min}
-use native.Mathlib.Omega.{arith}
+use Prim.Native.Nat.{◌-◌, ◌≤◌, min}
 use mathlib.Core.Path.{◌≡◌}
-use mathlib.Core.List.{◌∷◌}
 use lib.ListN.{length}
-use borrow.Author.Rules.{rules}
-use Rattle.written.specs.Judging.{count_entry}
 use Rattle.written.specs.Values.{mode_entries}
-use Rattle.written.proofs.EntriesFrom.{mode_among, modes_from, modes_next, modes_end, modes_part}
-use Rattle.written.proofs.EntriesKept.{entry_kept, mode_says}
-use Rattle.columns.proofs.Onward.{Onward, onward_start, onward_next, onward_stop, onward_end, onward_cut}
-use Rattle.columns.proofs.Told.{all_over, not_all_over}
+use Rattle.written.proofs.EntriesFrom.{modes_from}
+use Rattle.columns.proofs.Onward.{Onward}
 use Rattle.columns.proofs.modes.modes_number.Given as goal
 
 abbrev pub invariant-loop-at : goal.invariant-loop-at
