@@ -1,6 +1,5 @@
 -- `amount_lines` meets its contract: an amount is out of range exactly when it is 0 or beyond the longest time and one.
 use native.Mathlib.Omega.{arith}
-use borrow.Author.Rules.{rules}
 use Rattle.beginning.proofs.Beginnings.{amount_beyond, amount_within}
 use Rattle.beginning.proofs.amount_lines.Goals as goal
 

@@ -5,7 +5,6 @@ use Rattle.beginning.specs.Beginning.{rows, room_for}
 use Rattle.sheet.specs.Judging.{judged}
 use Rattle.sheet.specs.declared.Answer.TheVariants.{Accepted}
 use Rattle.sheet.specs.declared.Head.{Head}
-use borrow.Author.Rules.{rules}
 use borrow.Author.Tests.{eq-eqb, ne_eqb}
 use mathlib.Core.Path.{◌≡◌, ◌∙◌, sym, ap}
 use native.Mathlib.Nat.{mul-le-mul}

@@ -1,5 +1,4 @@
 -- `begin_amount` meets its contract: an amount in range takes at least one line.
-use borrow.Author.Rules.{rules}
 use Rattle.beginning.proofs.Beginnings.{begun_in_lines, amount_some}
 use Rattle.beginning.proofs.begin_amount.Goals as goal
 

@@ -1,6 +1,5 @@
 -- `begin_interval` meets its contract: an interval in range takes at least one line.
 use native.Mathlib.Omega.{arith}
-use borrow.Author.Rules.{rules}
 use Rattle.beginning.proofs.Beginnings.{begun_in_lines}
 use Rattle.beginning.proofs.begin_interval.Goals as goal
 

@@ -1,7 +1,6 @@
 -- `interval_lines` meets its contract: an interval is out of range exactly when it is beyond the longest time.
 use native.Mathlib.Omega.{arith}
 use mathlib.Core.Path.{refl}
-use borrow.Author.Rules.{rules}
 use borrow.Author.Tests.{lt-ltb, le-ltb}
 use Rattle.fields.proofs.Deciding.{yes, no}
 use Rattle.beginning.proofs.interval_lines.Goals as goal

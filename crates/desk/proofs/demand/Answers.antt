@@ -3,7 +3,6 @@ use Rattle.beginning.proofs.GoingOn.{GoesOn, goes_on, goes_answering, interval_h
 use Rattle.desk.specs.Calls.{DemandCall}
 use Rattle.beginning.proofs.Beginnings.{begun_refused}
 use Rattle.beginning.specs.Beginning.{interval_rules}
-use borrow.Author.Rules.{rules}
 use lib.ListN.{length}
 use mathlib.Core.Path.{refl}
 use native.Mathlib.Omega.{arith}

@@ -3,7 +3,6 @@ use Rattle.beginning.proofs.GoingOn.{GoesOn, goes_on, goes_answering, amount_han
 use Rattle.desk.specs.Calls.{ShortestCall}
 use Rattle.beginning.proofs.Beginnings.{begun_refused}
 use Rattle.beginning.specs.Beginning.{amount_rules}
-use borrow.Author.Rules.{rules}
 use lib.ListN.{length}
 use mathlib.Core.Path.{refl}
 use native.Mathlib.Omega.{arith}

@@ -3,7 +3,6 @@ use Rattle.beginning.proofs.Beginnings.{begun_refused}
 use Rattle.beginning.proofs.GoingOn.{GoesOn, goes_on, goes_answering, interval_handed}
 use Rattle.beginning.specs.Beginning.{interval_rules}
 use Rattle.explain.specs.Calls.{ExplainCall}
-use borrow.Author.Rules.{rules}
 use lib.ListN.{length}
 use mathlib.Core.Path.{refl}
 use native.Mathlib.Omega.{arith}

@@ -1,5 +1,4 @@
 -- `explain_numbers` meets its contract, case by case.
-use borrow.Author.Rules.{rules}
 use mathlib.Core.Path.{refl}
 use Rattle.explain_numbers.proofs.explain_numbers.Goals as goal
 

@@ -1,6 +1,5 @@
 -- `cell_of` meets its contract: no row reaches back into its own line, so the lines before are enough.
 use Prim.Native.Nat.{◌+◌, ◌<◌}
-use borrow.Author.Rules.{rules}
 use native.Mathlib.Omega.{arith}
 use Rattle.filling.specs.Reaching.{row_reach}
 use Rattle.filling.proofs.SheetCells.{reach_some, row_proper, work_is, cell_right, cell_fits, time_right}

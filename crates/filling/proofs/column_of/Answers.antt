@@ -1,6 +1,5 @@
 -- `column_of` meets its contract: the row reaches back by a block at least, so the lines before the block are enough for each of its lines.
 use Prim.Native.Nat.{ℕ, ◌+◌, ◌<◌}
-use borrow.Author.Rules.{rules}
 use native.Mathlib.Omega.{arith}
 use Rattle.blocks.specs.Blocks.{block_size}
 use Rattle.filling.specs.Reaching.{row_reach}

@@ -1,6 +1,5 @@
 -- `fill` meets its contract: the blocks are filled first, then the lines behind them.
 use Prim.Native.Nat.{◌≤◌}
-use borrow.Author.Rules.{rules}
 use native.Mathlib.Nat.{mul-le-mul_left}
 use native.Mathlib.Omega.{arith}
 use Rattle.tables.proofs.Lines.{room_for_fewer, filled_has}

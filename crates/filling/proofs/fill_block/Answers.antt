@@ -1,10 +1,6 @@
 -- `fill_block` meets its contract. The lines before are right, and in the block the rows passed.
-use Prim.Native.Nat.{◌-◌}
-use borrow.Author.Rules.{rules}
 use native.Mathlib.Omega.{arith}
-use Rattle.tables.specs.WhichTable.{table_of}
-use Rattle.beginning.specs.Beginning.{graph}
-use Rattle.filling.proofs.Columns.{Blocked, blocked_start, blocked_more, blocked_done}
+use Rattle.filling.proofs.Columns.{blocked_start, blocked_more, blocked_done}
 use Rattle.filling.proofs.fill_block.Goals as goal
 
 pub loop-k-init : goal.loop-k-init

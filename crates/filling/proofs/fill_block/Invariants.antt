@@ -1,9 +1,7 @@
 use Prim.Native.Nat.{◌-◌}
-use borrow.Author.Rules.{rules}
-use native.Mathlib.Omega.{arith}
 use Rattle.tables.specs.WhichTable.{table_of}
 use Rattle.beginning.specs.Beginning.{graph}
-use Rattle.filling.proofs.Columns.{Blocked, blocked_start, blocked_more, blocked_done}
+use Rattle.filling.proofs.Columns.{Blocked}
 use Rattle.filling.proofs.fill_block.Given as goal
 
 abbrev pub invariant-loop-k : goal.invariant-loop-k

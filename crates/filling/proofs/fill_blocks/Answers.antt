@@ -1,11 +1,8 @@
 -- `fill_blocks` meets its contract. The blocks passed are filled.
-use Prim.Native.Nat.{◌+◌, ◌-◌, ◌*◌, ◌≤◌}
+use Prim.Native.Nat.{◌+◌}
 use native.Mathlib.Omega.{arith}
-use Rattle.meaning.specs.Cells.{Filled}
-use Rattle.tables.specs.WhichTable.{table_of}
 use Rattle.tables.proofs.Lines.{room_for_fewer, filled_has}
 use Rattle.blocks.specs.Blocks.{block_size}
-use Rattle.beginning.specs.Beginning.{graph}
 use Rattle.filling.proofs.Joining.{lines_filled, filled_join}
 use Rattle.filling.proofs.fill_blocks.Goals as goal
 

@@ -1,11 +1,7 @@
-use Prim.Native.Nat.{◌+◌, ◌-◌, ◌*◌, ◌≤◌}
-use native.Mathlib.Omega.{arith}
+use Prim.Native.Nat.{◌-◌, ◌*◌, ◌≤◌}
 use Rattle.meaning.specs.Cells.{Filled}
 use Rattle.tables.specs.WhichTable.{table_of}
-use Rattle.tables.proofs.Lines.{room_for_fewer, filled_has}
-use Rattle.blocks.specs.Blocks.{block_size}
 use Rattle.beginning.specs.Beginning.{graph}
-use Rattle.filling.proofs.Joining.{lines_filled, filled_join}
 use Rattle.filling.proofs.fill_blocks.Given as goal
 
 abbrev pub invariant-loop-line : goal.invariant-loop-line

@@ -1,14 +1,10 @@
 -- `fill_line` meets its contract. The lines before are right, and in the line the cells passed.
-use Prim.Native.Nat.{◌+◌, ◌-◌, ◌*◌, ◌≤◌, ◌<◌}
-use borrow.Author.Rules.{rules}
+use Prim.Native.Nat.{◌+◌, ◌*◌, ◌<◌}
 use lib.ListN.{length}
 use mathlib.Core.Path.{◌≡◌}
 use native.Mathlib.Omega.{arith}
-use Rattle.meaning.specs.Cells.{Filled}
 use Rattle.meaning.proofs.Filling.{filled_one}
-use Rattle.tables.specs.WhichTable.{table_of}
 use Rattle.tables.proofs.Lines.{in_lines, filled_has}
-use Rattle.beginning.specs.Beginning.{graph}
 use Rattle.filling.proofs.Joining.{lines_filled}
 use Rattle.filling.proofs.fill_line.Goals as goal
 

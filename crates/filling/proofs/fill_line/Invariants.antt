@@ -1,14 +1,7 @@
-use Prim.Native.Nat.{◌+◌, ◌-◌, ◌*◌, ◌≤◌, ◌<◌}
-use borrow.Author.Rules.{rules}
-use lib.ListN.{length}
-use mathlib.Core.Path.{◌≡◌}
-use native.Mathlib.Omega.{arith}
+use Prim.Native.Nat.{◌+◌, ◌-◌, ◌*◌, ◌≤◌}
 use Rattle.meaning.specs.Cells.{Filled}
-use Rattle.meaning.proofs.Filling.{filled_one}
 use Rattle.tables.specs.WhichTable.{table_of}
-use Rattle.tables.proofs.Lines.{in_lines, filled_has}
 use Rattle.beginning.specs.Beginning.{graph}
-use Rattle.filling.proofs.Joining.{lines_filled}
 use Rattle.filling.proofs.fill_line.Given as goal
 
 abbrev pub invariant-loop-k : goal.invariant-loop-k

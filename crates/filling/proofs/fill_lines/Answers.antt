@@ -1,12 +1,8 @@
 -- `fill_lines` meets its contract. The lines passed are filled.
-use Prim.Native.Nat.{◌+◌, ◌-◌, ◌*◌, ◌≤◌}
-use borrow.Author.Rules.{rules}
+use Prim.Native.Nat.{◌+◌}
 use mathlib.Core.Path.{◌≡◌}
 use native.Mathlib.Omega.{arith}
-use Rattle.meaning.specs.Cells.{Filled}
-use Rattle.tables.specs.WhichTable.{table_of}
 use Rattle.tables.proofs.Lines.{room_for_fewer, filled_has}
-use Rattle.beginning.specs.Beginning.{graph}
 use Rattle.filling.proofs.Joining.{lines_filled, filled_join}
 use Rattle.filling.proofs.fill_lines.Goals as goal
 

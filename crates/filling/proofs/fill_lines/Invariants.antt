@@ -1,12 +1,7 @@
-use Prim.Native.Nat.{◌+◌, ◌-◌, ◌*◌, ◌≤◌}
-use borrow.Author.Rules.{rules}
-use mathlib.Core.Path.{◌≡◌}
-use native.Mathlib.Omega.{arith}
+use Prim.Native.Nat.{◌-◌, ◌*◌, ◌≤◌}
 use Rattle.meaning.specs.Cells.{Filled}
 use Rattle.tables.specs.WhichTable.{table_of}
-use Rattle.tables.proofs.Lines.{room_for_fewer, filled_has}
 use Rattle.beginning.specs.Beginning.{graph}
-use Rattle.filling.proofs.Joining.{lines_filled, filled_join}
 use Rattle.filling.proofs.fill_lines.Given as goal
 
 abbrev pub invariant-loop-line : goal.invariant-loop-line

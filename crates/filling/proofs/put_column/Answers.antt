@@ -1,10 +1,9 @@
 -- `put_column` meets its contract. The cells passed are put, and the place is that of the next one.
-use Prim.Native.Nat.{◌+◌, ◌-◌, ◌*◌, ◌≤◌, ◌<◌}
+use Prim.Native.Nat.{◌+◌, ◌*◌, ◌<◌}
 use lib.ListN.{length}
 use mathlib.Core.Path.{◌≡◌}
 use native.Mathlib.Omega.{arith}
 use Rattle.blocks.specs.Blocks.{block_size}
-use Rattle.filling.specs.Reaching.{Put}
 use Rattle.filling.proofs.Columns.{put_none, put_more}
 use Rattle.tables.proofs.Lines.{in_lines}
 use Rattle.filling.proofs.put_column.Goals as goal

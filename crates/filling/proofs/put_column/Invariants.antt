@@ -1,11 +1,7 @@
-use Prim.Native.Nat.{◌+◌, ◌-◌, ◌*◌, ◌≤◌, ◌<◌}
-use lib.ListN.{length}
+use Prim.Native.Nat.{◌+◌, ◌-◌, ◌*◌, ◌≤◌}
 use mathlib.Core.Path.{◌≡◌}
-use native.Mathlib.Omega.{arith}
 use Rattle.blocks.specs.Blocks.{block_size}
 use Rattle.filling.specs.Reaching.{Put}
-use Rattle.filling.proofs.Columns.{put_none, put_more}
-use Rattle.tables.proofs.Lines.{in_lines}
 use Rattle.filling.proofs.put_column.Given as goal
 
 abbrev pub invariant-loop-i : goal.invariant-loop-i

@@ -1,14 +1,13 @@
 -- `job_length` meets its contract. The modes that are left decide as all of them do.
-use Prim.Native.Nat.{◌+◌, ◌-◌, ◌≤◌}
+use Prim.Native.Nat.{◌+◌}
 use Rattle.modes.proofs.Left.{here, none_left}
 use Rattle.fields.specs.Deciding.{pick}
 use Rattle.fields.specs.Values.{no_mode}
 use Rattle.modes.specs.Modes.{first_length, length_in, job_length}
 use Rattle.fields.specs.declared.values.Mode.{Mode}
-use borrow.Author.Rules.{rules}
 use lib.Dec.{leb}
 use lib.ListN.{get_or, take, drop}
-use mathlib.Core.Bool.{Bool, true, false}
+use mathlib.Core.Bool.{true, false}
 use mathlib.Core.List.{List}
 use mathlib.Core.Path.{◌≡◌, ◌∙◌, refl, sym, ap}
 use native.Mathlib.Omega.{arith}

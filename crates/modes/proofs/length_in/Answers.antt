@@ -1,7 +1,6 @@
 -- `length_in` meets its contract, test by test.
 use Rattle.fields.proofs.Deciding.{judging}
 use Rattle.modes.specs.Modes.{length_in}
-use borrow.Author.Rules.{rules}
 use Rattle.modes.proofs.length_in.Goals as goal
 
 pub returns-then-at_most : goal.returns-then-at_most

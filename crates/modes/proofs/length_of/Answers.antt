@@ -1,7 +1,6 @@
 -- `length_of` meets its contract: the mode of a number begins the modes from there on, and past the last none is left.
 use Rattle.modes.proofs.Left.{here, none_left}
 use Rattle.modes.specs.Modes.{first_length}
-use borrow.Author.Rules.{rules}
 use mathlib.Core.Path.{sym, ap}
 use native.Mathlib.Omega.{arith}
 use Rattle.modes.proofs.length_of.Goals as goal

@@ -1,5 +1,4 @@
 -- `demand_numbers` meets its contract, case by case.
-use borrow.Author.Rules.{rules}
 use mathlib.Core.Path.{ap, sym}
 use Rattle.numbers.specs.Flat.{flat_demand}
 use Rattle.numbers.proofs.demand_numbers.Goals as goal

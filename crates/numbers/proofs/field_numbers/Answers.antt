@@ -1,5 +1,4 @@
 -- `field_numbers` meets its contract, case by case.
-use borrow.Author.Rules.{rules}
 use mathlib.Core.Path.{ap, sym}
 use Rattle.numbers.specs.Flat.{flat_step}
 use Rattle.numbers.proofs.field_numbers.Goals as goal

@@ -1,5 +1,4 @@
 -- `judge_numbers` meets its contract, refused and accepted.
-use borrow.Author.Rules.{rules}
 use mathlib.Core.Path.{refl}
 use Rattle.numbers.proofs.judge_numbers.Goals as goal
 

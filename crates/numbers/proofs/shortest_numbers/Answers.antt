@@ -1,5 +1,4 @@
 -- `shortest_numbers` meets its contract, case by case.
-use borrow.Author.Rules.{rules}
 use mathlib.Core.Path.{ap, sym}
 use Rattle.numbers.specs.Flat.{flat_shortest}
 use Rattle.numbers.proofs.shortest_numbers.Goals as goal

@@ -1,5 +1,4 @@
 -- `verdict_numbers` meets its contract, case by case.
-use borrow.Author.Rules.{rules}
 use mathlib.Core.Path.{ap, sym}
 use Rattle.numbers.specs.Flat.{flat_verdict}
 use Rattle.numbers.proofs.verdict_numbers.Goals as goal

@@ -1,7 +1,6 @@
 -- `bad_fallback` meets its contract, test by test.
 use Rattle.fields.proofs.Deciding.{judging}
 use Rattle.rules.specs.Rules.{bad_fallback}
-use borrow.Author.Rules.{rules}
 use Rattle.rules.proofs.bad_fallback.Goals as goal
 
 pub returns-then-size-eq-MODE : goal.returns-then-size-eq-MODE

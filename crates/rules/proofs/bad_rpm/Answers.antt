@@ -1,7 +1,6 @@
 -- `bad_rpm` meets its contract, test by test.
 use Rattle.fields.proofs.Deciding.{judging}
 use Rattle.rules.specs.Rules.{bad_rpm}
-use borrow.Author.Rules.{rules}
 use Rattle.rules.proofs.bad_rpm.Goals as goal
 
 pub returns-then-is_zero : goal.returns-then-is_zero

@@ -2,7 +2,6 @@
 use Rattle.fields.proofs.Deciding.{judging}
 use Rattle.fields.specs.Deciding.{first_broken}
 use Rattle.rules.specs.Rules.{common_rules}
-use borrow.Author.Rules.{rules}
 use Rattle.rules.proofs.common_number.Goals as goal
 
 pub returns-then-out_of_order : goal.returns-then-out_of_order

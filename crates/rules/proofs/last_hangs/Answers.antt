@@ -1,6 +1,5 @@
 -- `last_hangs` meets its contract: it compares the two speeds.
 use Rattle.rules.specs.Rules.{last_hangs}
-use borrow.Author.Rules.{rules}
 use mathlib.Core.Bool.{not}
 use mathlib.Core.Path.{ap}
 use Rattle.rules.proofs.last_hangs.Goals as goal

@@ -1,12 +1,8 @@
 -- `out_of_order` meets its contract. The loop looks at the tags below: what is left of them decides as all of them do.
-use Prim.Native.Nat.{◌-◌}
 use Rattle.fields.proofs.Deciding.{judging, told, any_hit, any_miss, any_none}
-use Rattle.fields.specs.Deciding.{any_from}
-use Rattle.rules.specs.Rules.{missing, out_of_order}
-use borrow.Author.Rules.{rules}
-use mathlib.Core.Path.{◌≡◌, ◌∙◌, sym}
+use Rattle.rules.specs.Rules.{out_of_order}
+use mathlib.Core.Path.{◌∙◌, sym}
 use native.Mathlib.Nat.{sub-zero}
-use native.Mathlib.Omega.{arith}
 use Rattle.rules.proofs.out_of_order.Goals as goal
 
 pub returns-then-tag-last : goal.returns-then-tag-last

@@ -2,7 +2,6 @@
 use Rattle.fields.proofs.Deciding.{judging}
 use Rattle.fields.specs.Deciding.{first_broken}
 use Rattle.rules.specs.Rules.{row_rules}
-use borrow.Author.Rules.{rules}
 use Rattle.rules.proofs.row_number.Goals as goal
 
 -- where no test holds, no rule is broken

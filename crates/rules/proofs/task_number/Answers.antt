@@ -1,7 +1,6 @@
 -- `task_number` meets its contract, rule by rule.
 use Rattle.fields.proofs.Deciding.{judging}
 use Rattle.fields.specs.Deciding.{first_broken}
-use borrow.Author.Rules.{rules}
 use Rattle.rules.specs.Rules.{task_rules}
 use Rattle.rules.proofs.task_number.Goals as goal
 

@@ -1,6 +1,5 @@
 -- `unknown_in` meets its contract: the set's next row from the number of rows on decides.
 use Rattle.rules.specs.Rules.{unknown_in}
-use borrow.Author.Rules.{rules}
 use Rattle.rules.proofs.unknown_in.Goals as goal
 
 pub returns-in-At : goal.returns-in-At

@@ -1,7 +1,6 @@
 -- `wrong_length` meets its contract: it reads the tag's line.
 use Rattle.fields.proofs.Deciding.{judging}
 use Rattle.rules.specs.Rules.{wrong_length}
-use borrow.Author.Rules.{rules}
 use Rattle.rules.proofs.wrong_length.Goals as goal
 
 pub returns-then-size-line : goal.returns-then-size-line

@@ -1,7 +1,6 @@
 -- `judge` meets its contract: the rows at the places that are kept are the judged sheet's.
 use Rattle.sheet.proofs.Outlining.{places_in, rows_from_lem}
 use Rattle.sheet.proofs.RowPlaces.{rows_one}
-use borrow.Author.Rules.{rules}
 use mathlib.Core.Path.{refl}
 use Rattle.sheet.proofs.judge.Goals as goal
 

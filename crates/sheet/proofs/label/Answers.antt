@@ -4,7 +4,6 @@ use Prim.Native.Nat.{ℕ, ◌+◌, ◌≤◌}
 use native.Mathlib.Omega.{arith}
 use native.Mathlib.Nat.{add_comm, add-sub_cancel_left}
 use lib.ListN.{length, take, drop}
-use borrow.Author.Rules.{rules}
 use Rattle.sheet.specs.Judging.{judged}
 use Rattle.sheet.proofs.LabelInside.{label_inside}
 use Rattle.sheet.proofs.label.Goals as goal

@@ -1,17 +1,13 @@
 -- `outline_of` meets its contract. The loop walks as the definition does: what is left of the file, from where it stands and with the sheet so far, decides as the whole file does. Of that sheet it has the head, and its rows stand at the places kept.
-use Prim.Native.Nat.{ℕ, ◌+◌, ◌-◌, ◌≤◌, ◌<◌}
+use Prim.Native.Nat.{◌+◌, ◌-◌, ◌≤◌}
 use Rattle.fields.specs.Deciding.{first_broken}
-use Rattle.fields.specs.Limits.{row_limit}
 use Rattle.fields.specs.Values.{empty_sheet}
-use Rattle.fields.specs.declared.values.Row.{Row}
 use Rattle.sheet.proofs.Numbered.{first_kept, row_fits}
 use Rattle.sheet.proofs.Outlining.{field_grown, is_row_lem, places_in, rows_from_lem, stand_none, field_stands, places_length, outlined_refused, outlined_end}
 use Rattle.sheet.proofs.Walking.{field_in, walk_refused, walk_broken, walk_end, walk_on}
 use Rattle.sheet.specs.Judging.{field_rules, with_field, judged, walk}
 use Rattle.sheet.specs.Outline.{sheet_from, places_with, RowsAt}
-use borrow.Author.Rules.{rules}
 use lib.ListN.{length}
-use mathlib.Core.List.{List}
 use mathlib.Core.Path.{◌≡◌, ◌∙◌, refl, sym, ap, subst}
 use native.Mathlib.Omega.{arith}
 use Rattle.sheet.proofs.outline_of.Goals as goal

@@ -1,6 +1,5 @@
 -- `horizon_of` meets its contract. As many lines fit as the cells divided by the rows.
 use Prim.Native.Nat.{◌+◌, ◌-◌, ◌/◌, ◌≤◌}
-use borrow.Author.Rules.{rules}
 use native.Mathlib.Omega.{arith}
 use Rattle.meaning.specs.Demand.{longest_time}
 use Rattle.steps.proofs.Horizons.{lines_fit, fit_lines}

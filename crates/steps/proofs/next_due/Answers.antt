@@ -1,6 +1,5 @@
 -- `next_due` meets its contract: it answers with the interval at which the task's next job falls due.
 use Prim.Native.Nat.{◌+◌, ◌-◌, ◌*◌, ◌/◌, ◌≤◌}
-use borrow.Author.Rules.{rules}
 use mathlib.Core.Path.{◌≡◌}
 use native.Mathlib.Nat.{div-le_self, div-mul-le_self}
 use native.Mathlib.Omega.{arith}

@@ -1,6 +1,5 @@
 -- `next_fixed_rise` meets its contract: what it has so far is where the demand of the tasks passed rises next.
-use Prim.Native.Nat.{◌-◌, ◌≤◌, ◌<◌}
-use borrow.Author.Rules.{rules}
+use Prim.Native.Nat.{◌-◌, ◌<◌}
 use lib.ListN.{take, get_or}
 use mathlib.Core.Path.{◌≡◌, refl, sym}
 use native.Mathlib.Omega.{arith}
@@ -11,7 +10,6 @@ use Rattle.fields.specs.Values.{no_task}
 use Rattle.sheet.specs.Meaning.{times_of}
 use Rattle.overruns.specs.Releases.{counted_tasks}
 use Rattle.overruns.proofs.ProperTasks.{sum_more, sum_all}
-use Rattle.steps.specs.Rising.{IsNextRise}
 use Rattle.steps.proofs.Rising.{never_rises, rises_alike, sum_rises}
 use Rattle.steps.proofs.next_fixed_rise.Goals as goal
 

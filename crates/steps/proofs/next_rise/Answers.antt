@@ -1,5 +1,5 @@
 -- `next_rise` meets its contract. Demand rises at no interval passed.
-use Prim.Native.Nat.{ℕ, ◌+◌, ◌-◌, ◌≤◌, ◌<◌}
+use Prim.Native.Nat.{◌-◌}
 use mathlib.Core.Logic.{⊎_elim}
 use mathlib.Core.Path.{◌≡◌}
 use native.Mathlib.Nat.{add-sub_cancel}

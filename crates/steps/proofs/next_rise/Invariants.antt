@@ -1,10 +1,5 @@
 use Prim.Native.Nat.{ℕ, ◌+◌, ◌-◌, ◌≤◌, ◌<◌}
-use mathlib.Core.Logic.{⊎_elim}
 use mathlib.Core.Path.{◌≡◌}
-use native.Mathlib.Nat.{add-sub_cancel}
-use native.Mathlib.Omega.{arith}
-use Rattle.meaning.proofs.Tests.{lt_or}
-use Rattle.steps.proofs.Horizons.{lines_upto}
 use Rattle.steps.specs.Rising.{Rises}
 use Rattle.tables.specs.Lines.{demand_in}
 use Rattle.steps.proofs.next_rise.Given as goal

@@ -1,11 +1,10 @@
 -- `first_with` meets its contract. No cell passed is the work wanted.
-use Prim.Native.Nat.{ℕ, ◌+◌, ◌-◌, ◌*◌, ◌≤◌, ◌<◌}
+use Prim.Native.Nat.{◌+◌, ◌*◌, ◌<◌}
 use lib.ListN.{length}
 use borrow.Author.Tests.{eq-eqb, ne_eqb}
 use mathlib.Core.Logic.{⊎_elim}
 use mathlib.Core.Path.{◌≡◌}
 use native.Mathlib.Omega.{arith}
-use Rattle.meaning.specs.Computed.{cell_at}
 use Rattle.meaning.proofs.Tests.{lt_or}
 use Rattle.tables.proofs.Lines.{in_lines}
 use Rattle.witness.proofs.Searches.{seek_is, seek_none}

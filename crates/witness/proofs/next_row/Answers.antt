@@ -1,6 +1,5 @@
 -- `next_row` meets its contract. No follower passed adds just the work wanted.
 use Prim.Native.Nat.{◌+◌, ◌-◌, ◌^◌, ◌<◌}
-use borrow.Author.Rules.{rules}
 use lib.ListN.{length}
 use mathlib.Core.Path.{◌≡◌, sym, ◌∙◌}
 use native.Mathlib.Omega.{arith}
@@ -8,7 +7,7 @@ use Rattle.sets.proofs.Search.{First, next_at, next_none_all}
 use Rattle.tables.specs.Adding.{added_at}
 use Rattle.tables.specs.Followers.{gap_to}
 use Rattle.tables.proofs.Followers.{row_followed}
-use Rattle.witness.proofs.Leading.{Sought, sought_start, sought_none, sought_gap, sought_inside, sought_next, leading_is, leading_none}
+use Rattle.witness.proofs.Leading.{sought_start, sought_none, sought_gap, sought_inside, sought_next, leading_is, leading_none}
 use Rattle.witness.proofs.next_row.Goals as goal
 
 pub loop-next-init : goal.loop-next-init

@@ -1,13 +1,5 @@
-use Prim.Native.Nat.{◌+◌, ◌-◌, ◌^◌, ◌<◌}
-use borrow.Author.Rules.{rules}
-use lib.ListN.{length}
-use mathlib.Core.Path.{◌≡◌, sym, ◌∙◌}
-use native.Mathlib.Omega.{arith}
-use Rattle.sets.proofs.Search.{First, next_at, next_none_all}
-use Rattle.tables.specs.Adding.{added_at}
-use Rattle.tables.specs.Followers.{gap_to}
-use Rattle.tables.proofs.Followers.{row_followed}
-use Rattle.witness.proofs.Leading.{Sought, sought_start, sought_none, sought_gap, sought_inside, sought_next, leading_is, leading_none}
+use Prim.Native.Nat.{◌-◌}
+use Rattle.witness.proofs.Leading.{Sought}
 use Rattle.witness.proofs.next_row.Given as goal
 
 abbrev pub invariant-loop-next : goal.invariant-loop-next

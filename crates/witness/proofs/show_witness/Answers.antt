@@ -4,7 +4,6 @@ use Rattle.beginning.specs.Beginning.{graph}
 use Rattle.beginning.proofs.Showing.{shown_too_long, shown_written}
 use Rattle.meaning.specs.Computed.{witness_of}
 use Rattle.witness.specs.declared.Shown.TheVariants.{Rows, TooLong}
-use borrow.Author.Rules.{rules}
 use lib.ListN.{length}
 use mathlib.Core.Path.{◌≡◌, refl, ap}
 use native.Mathlib.Omega.{arith}

@@ -1,5 +1,4 @@
 -- `start` meets its contract.
-use borrow.Author.Rules.{rules}
 use Rattle.witness.specs.Stands.{start_of}
 use Rattle.witness.proofs.start.Goals as goal
 

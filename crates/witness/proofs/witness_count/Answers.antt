@@ -1,12 +1,10 @@
 -- `witness_count` meets its contract. The rows passed are counted, and the witness goes on from where it stands.
-use Prim.Native.Nat.{ℕ, ◌-◌, ◌<◌}
+use Prim.Native.Nat.{◌<◌}
 use lib.ListN.{length}
-use mathlib.Core.List.{List, []}
-use mathlib.Core.Path.{◌≡◌, refl, ap, ◌∙◌}
+use mathlib.Core.List.{[]}
+use mathlib.Core.Path.{refl, ap, ◌∙◌}
 use native.Mathlib.Omega.{arith}
-use Rattle.beginning.specs.Beginning.{graph}
 use Rattle.fields.specs.Limits.{row_limit}
-use Rattle.witness.proofs.Witnesses.{OnWay}
 use Rattle.witness.proofs.Steps.{starts_none, starts, step_row, step_inside, step_few, step_last, step_asks, step_on, count_more}
 use Rattle.witness.proofs.witness_count.Goals as goal
 
@@ -60,9 +58,8 @@ loop-stand-smaller c =
     let few : c.loop-stand.count < c.args.t = omega (arith, c.loop-stand.invariant.2, step_few _ _ _ _ c.requires.laid _ _ c.requires.has_lines _ _ c.loop-stand.invariant.1) in omega (arith, few)
 
 pub loop-stand-preserved : goal.loop-stand-preserved
-loop-stand-preserved c =
-    (
-      _,
-      step_on _ _ _ _ c.requires.laid _ _ c.requires.has_lines _ _ c.loop-stand.invariant.1 c.if-stand-own.false _ c.row_at-row.ensures _ c.onward-stand.ensures,
-      count_more c.loop-stand.invariant.0 c.loop-stand.stand.row c.loop-stand.count c.loop-stand.invariant.2,
-    )
+loop-stand-preserved c = (
+  _,
+  step_on _ _ _ _ c.requires.laid _ _ c.requires.has_lines _ _ c.loop-stand.invariant.1 c.if-stand-own.false _ c.row_at-row.ensures _ c.onward-stand.ensures,
+  count_more c.loop-stand.invariant.0 c.loop-stand.stand.row c.loop-stand.count c.loop-stand.invariant.2,
+)

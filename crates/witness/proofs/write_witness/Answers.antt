@@ -1,13 +1,12 @@
 -- `write_witness` meets its contract. The rows passed are written, and the witness goes on from where it stands.
-use Prim.Native.Nat.{ℕ, ◌+◌, ◌-◌, ◌<◌}
+use Prim.Native.Nat.{ℕ, ◌+◌, ◌<◌}
 use lib.ListN.{length, set, length-set}
 use mathlib.Core.List.{List, []}
 use mathlib.Core.Path.{◌≡◌, subst}
 use native.Mathlib.Omega.{arith}
-use Rattle.beginning.specs.Beginning.{graph}
 use Rattle.fields.specs.Limits.{row_limit}
 use Rattle.witness.specs.Stands.{Written}
-use Rattle.witness.proofs.Witnesses.{OnWay, way_room}
+use Rattle.witness.proofs.Witnesses.{way_room}
 use Rattle.witness.proofs.Steps.{starts_none, starts, step_row, step_inside, step_few, step_last, step_asks, step_on}
 use Rattle.witness.proofs.Writing.{written_none, written_length, written_more}
 use Rattle.witness.proofs.write_witness.Goals as goal
@@ -81,8 +80,7 @@ loop-stand-smaller c =
 
 pub loop-stand-preserved : goal.loop-stand-preserved
 loop-stand-preserved c =
-    let room : length c.loop-stand.invariant.0 < length c.args.area.now = omega (arith, way_room _ _ _ _ c.loop-stand.invariant.1, c.requires.t_in_bounds) in
-    (
+    let room : length c.loop-stand.invariant.0 < length c.args.area.now = omega (arith, way_room _ _ _ _ c.loop-stand.invariant.1, c.requires.t_in_bounds) in (
       _,
       step_on _ _ _ _ c.requires.laid _ _ c.requires.has_lines _ _ c.loop-stand.invariant.1 c.if-stand-own.false _ c.row_at-row.ensures _ c.onward-stand.ensures,
       written_more _ _ _ _ c.loop-stand.invariant.2 c.loop-stand.stand.row (room),

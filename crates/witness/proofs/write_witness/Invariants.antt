@@ -1,14 +1,8 @@
-use Prim.Native.Nat.{ℕ, ◌+◌, ◌-◌, ◌<◌}
-use lib.ListN.{length, set, length-set}
-use mathlib.Core.List.{List, []}
-use mathlib.Core.Path.{◌≡◌, subst}
-use native.Mathlib.Omega.{arith}
+use Prim.Native.Nat.{ℕ, ◌-◌}
+use mathlib.Core.List.{List}
 use Rattle.beginning.specs.Beginning.{graph}
-use Rattle.fields.specs.Limits.{row_limit}
 use Rattle.witness.specs.Stands.{Written}
-use Rattle.witness.proofs.Witnesses.{OnWay, way_room}
-use Rattle.witness.proofs.Steps.{starts_none, starts, step_row, step_inside, step_few, step_last, step_asks, step_on}
-use Rattle.witness.proofs.Writing.{written_none, written_length, written_more}
+use Rattle.witness.proofs.Witnesses.{OnWay}
 use Rattle.witness.proofs.write_witness.Given as goal
 
 abbrev pub invariant-loop-stand : goal.invariant-loop-stand

@@ -1,12 +1,9 @@
 -- `number_of` meets its contract: every digit passed is one, and their value so far is known.
-use Prim.Native.Nat.{ℕ, ◌-◌, ◌≤◌, ◌<◌}
-use borrow.Author.Rules.{rules}
+use Prim.Native.Nat.{◌≤◌, ◌<◌}
 use borrow.Author.Count.{below_none, below_more}
-use mathlib.Core.Logic.{⊎_elim}
 use mathlib.Core.Path.{◌≡◌}
 use native.Mathlib.Omega.{arith}
 use lib.ListN.{length, get_or}
-use Rattle.words.specs.Numbers.{IsDigit, value_upto}
 use Rattle.words.proofs.Digits.{value_none, value_more, value_small}
 use Rattle.words.proofs.number_of.Goals.{then-word-eq48+else-size-gt1, else-word-eq48}
 use Rattle.words.proofs.number_of.Goals as goal
@@ -28,8 +25,8 @@ loop-i-init c =
     let word = c.args.word.now in
     let zero_alone : get_or word 0 0 ≡ 48 → length word ≡ 1 = λ e.
     elim c.if-word-eq48.branch [
-      then-word-eq48+else-size-gt1 w ↦ omega (arith, w.if-size-gt1.false, c.if-size-eq0.false)
-    | else-word-eq48 w ↦ absurd (w.if-word-eq48.false e)
+      | then-word-eq48+else-size-gt1 w ↦ omega (arith, w.if-size-gt1.false, c.if-size-eq0.false)
+      | else-word-eq48 w ↦ absurd (w.if-word-eq48.false e)
     ] in (omega arith, value_none _, below_none _, zero_alone)
 
 pub returns-then-byte-lt48 : goal.returns-then-byte-lt48
@@ -69,8 +66,8 @@ returns c =
     let word = c.args.word.now in
     let zero_alone : get_or word 0 0 ≡ 48 → length word ≡ 1 = λ e.
     elim c.if-word-eq48.branch [
-      then-word-eq48+else-size-gt1 w ↦ omega (arith, w.if-size-gt1.false, c.if-size-eq0.false)
-    | else-word-eq48 w ↦ absurd (w.if-word-eq48.false e)
+      | then-word-eq48+else-size-gt1 w ↦ omega (arith, w.if-size-gt1.false, c.if-size-eq0.false)
+      | else-word-eq48 w ↦ absurd (w.if-word-eq48.false e)
     ] in
     let l = c.loop-i in
     let word = c.args.word.now in

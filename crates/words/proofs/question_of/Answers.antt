@@ -1,10 +1,8 @@
 -- `question_of` meets its contract: a word is some question's name where a test says so, and no question's where none does.
-use borrow.Author.Rules.{rules}
 use mathlib.Core.Bool.{Bool, true, false, true≢false}
 use mathlib.Core.Logic.{◌↔◌}
 use mathlib.Core.Path.{◌≡◌, sym, ◌∙◌}
 use Rattle.words.specs.Questions.{name_of}
-use Rattle.words.specs.declared.Question.{Question}
 use Rattle.words.specs.declared.Question.TheVariants.{Fits, Curve, Chart, At, Shortest}
 use Rattle.words.proofs.question_of.Goals as goal
 
@@ -31,9 +29,9 @@ returns-then-same-5 c = c.same-5.ensures.0 c.if-same-5.true
 pub returns : goal.returns
 returns c question =
     elim question as (λ q. c.args.word.now ≡ name_of q → ⊥) [
-      Fits ↦ other _ _ c.same.ensures c.if-same.false
-    | Curve ↦ other _ _ c.same-2.ensures c.if-same-2.false
-    | Chart ↦ other _ _ c.same-3.ensures c.if-same-3.false
-    | At ↦ other _ _ c.same-4.ensures c.if-same-4.false
-    | Shortest ↦ other _ _ c.same-5.ensures c.if-same-5.false
+      | Fits ↦ other _ _ c.same.ensures c.if-same.false
+      | Curve ↦ other _ _ c.same-2.ensures c.if-same-2.false
+      | Chart ↦ other _ _ c.same-3.ensures c.if-same-3.false
+      | At ↦ other _ _ c.same-4.ensures c.if-same-4.false
+      | Shortest ↦ other _ _ c.same-5.ensures c.if-same-5.false
     ]

@@ -1,12 +1,11 @@
 -- `same` meets its contract: two words of one length are the same where each letter passed is.
-use Prim.Native.Nat.{ℕ, ◌-◌, ◌≤◌, ◌<◌}
-use borrow.Author.Rules.{rules}
+use Prim.Native.Nat.{ℕ}
 use borrow.Author.Count.{below_none, below_more}
 use lib.ListN.{length, get_or}
 use lib.Seq.{ext_get_or}
 use mathlib.Core.Bool.{true≢false}
 use mathlib.Core.List.{List}
-use mathlib.Core.Path.{◌≡◌, refl, sym, ap}
+use mathlib.Core.Path.{refl, sym, ap}
 use native.Mathlib.Omega.{arith}
 use Rattle.words.proofs.same.Goals as goal
 

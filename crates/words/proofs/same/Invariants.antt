@@ -1,12 +1,6 @@
 use Prim.Native.Nat.{ℕ, ◌-◌, ◌≤◌, ◌<◌}
-use borrow.Author.Rules.{rules}
-use borrow.Author.Count.{below_none, below_more}
-use lib.ListN.{length, get_or}
-use lib.Seq.{ext_get_or}
-use mathlib.Core.Bool.{true≢false}
-use mathlib.Core.List.{List}
-use mathlib.Core.Path.{◌≡◌, refl, sym, ap}
-use native.Mathlib.Omega.{arith}
+use lib.ListN.{get_or}
+use mathlib.Core.Path.{◌≡◌}
 use Rattle.words.proofs.same.Given as goal
 
 abbrev pub invariant-loop-i : goal.invariant-loop-i

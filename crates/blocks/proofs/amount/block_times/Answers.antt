@@ -1,6 +1,5 @@
 -- `block_times` meets its contract: where one job is not enough for the first line, nor for any other, the rest is a follower's to do.
 use Prim.Native.Nat.{◌+◌}
-use borrow.Author.Rules.{rules}
 use native.Mathlib.Omega.{arith}
 use Rattle.tables.proofs.Followers.{row_followed}
 use Rattle.tables.proofs.Lines.{room_for_fewer}

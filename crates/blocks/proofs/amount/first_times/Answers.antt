@@ -1,12 +1,8 @@
 -- `first_times` meets its contract. The lines passed have their cells.
-use Prim.Native.Nat.{◌+◌, ◌-◌}
-use borrow.Author.Rules.{rules}
+use Prim.Native.Nat.{◌+◌}
 use native.Mathlib.Omega.{arith}
-use Rattle.meaning.specs.Cells.{amount_of}
-use Rattle.meaning.specs.Computed.{cell_for, least_at}
-use Rattle.sheet.specs.Meaning.{gap_of}
 use Rattle.tables.proofs.Lines.{room_for_fewer}
-use Rattle.tables.proofs.Storing.{Stored, stored_none, stored_more}
+use Rattle.tables.proofs.Storing.{stored_none, stored_more}
 use Rattle.blocks.specs.Blocks.{block_size}
 use Rattle.blocks.proofs.Lanes.{all_stored}
 use Rattle.blocks.proofs.amount.first_times.Goals as goal

@@ -1,12 +1,8 @@
 -- `sooner_by` meets its contract. The lines passed have the sooner time, and the place is that of the next line's cell.
-use Prim.Native.Nat.{◌+◌, ◌-◌, ◌*◌, ◌<◌, min}
-use borrow.Author.Rules.{rules}
-use lib.ListN.{length, get_or}
-use mathlib.Core.Path.{◌≡◌}
+use Prim.Native.Nat.{◌<◌}
+use lib.ListN.{length}
 use native.Mathlib.Omega.{arith}
-use Rattle.meaning.specs.Computed.{time_or_none}
-use Rattle.tables.proofs.Storing.{Stored, stored_none, stored_more}
-use Rattle.blocks.specs.Blocks.{block_size}
+use Rattle.tables.proofs.Storing.{stored_none, stored_more}
 use Rattle.blocks.proofs.Lanes.{lane_inside, all_stored}
 use Rattle.blocks.proofs.amount.sooner_by.Goals as goal
 

@@ -1,12 +1,9 @@
-use Prim.Native.Nat.{◌+◌, ◌-◌, ◌*◌, ◌<◌, min}
-use borrow.Author.Rules.{rules}
-use lib.ListN.{length, get_or}
+use Prim.Native.Nat.{◌+◌, ◌-◌, ◌*◌, min}
+use lib.ListN.{get_or}
 use mathlib.Core.Path.{◌≡◌}
-use native.Mathlib.Omega.{arith}
 use Rattle.meaning.specs.Computed.{time_or_none}
-use Rattle.tables.proofs.Storing.{Stored, stored_none, stored_more}
+use Rattle.tables.proofs.Storing.{Stored}
 use Rattle.blocks.specs.Blocks.{block_size}
-use Rattle.blocks.proofs.Lanes.{lane_inside, all_stored}
 use Rattle.blocks.proofs.amount.sooner_by.Given as goal
 
 abbrev pub invariant-loop-i : goal.invariant-loop-i

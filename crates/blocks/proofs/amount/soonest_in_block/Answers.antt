@@ -1,18 +1,16 @@
 -- `soonest_in_block` meets its contract. What is left of the set, the place of the next gap and the soonest so far in each line go together.
 use Prim.Native.Nat.{ℕ, ◌+◌, ◌-◌, ◌*◌, ◌<◌}
-use borrow.Author.Rules.{rules}
 use lib.Bits.{and_le_r}
 use lib.Count.{count_trailing_zeros}
 use lib.ListN.{length}
 use mathlib.Core.Path.{◌≡◌, ap, ◌∙◌}
 use native.Mathlib.Omega.{arith}
-use Rattle.meaning.specs.Demand.{no_time}
-use Rattle.tables.specs.Amounts.{sooner_via, soonest_via}
+use Rattle.tables.specs.Amounts.{soonest_via}
 use Rattle.tables.specs.Followers.{gap_to}
 use Rattle.tables.proofs.Followers.{passing_row, passing_gap, passing_inside}
 use Rattle.blocks.specs.Blocks.{block_size}
 use Rattle.blocks.proofs.Lanes.{lane_room, lane_cell}
-use Rattle.blocks.proofs.Passing.{EachPassing, each_start, each_done, each_next}
+use Rattle.blocks.proofs.Passing.{each_start, each_done, each_next}
 use Rattle.blocks.proofs.amount.soonest_in_block.Goals as goal
 
 pub overflow_mul-base : goal.overflow_mul-base

@@ -1,13 +1,12 @@
 -- `block_cells` meets its contract. The lines passed have their cells.
-use Prim.Native.Nat.{ℕ, ◌+◌, ◌-◌, ◌<◌}
-use borrow.Author.Rules.{rules}
+use Prim.Native.Nat.{ℕ, ◌+◌, ◌<◌}
 use lib.ListN.{get_or}
 use mathlib.Core.Path.{◌≡◌, ◌∙◌}
 use native.Mathlib.Omega.{arith}
 use Rattle.tables.specs.Adding.{cell_of}
 use Rattle.tables.proofs.Adding.{most_added_is}
 use Rattle.tables.proofs.Followers.{row_followed}
-use Rattle.tables.proofs.Storing.{Stored, stored_none, stored_more}
+use Rattle.tables.proofs.Storing.{stored_none, stored_more}
 use Rattle.blocks.specs.Blocks.{block_size, due_work}
 use Rattle.blocks.proofs.Lanes.{all_stored}
 use Rattle.blocks.proofs.Raising.{due_is}

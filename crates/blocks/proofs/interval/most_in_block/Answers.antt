@@ -1,15 +1,14 @@
 -- `most_in_block` meets its contract. What is left of the set, the place of the next gap and the most so far in each line go together.
-use Prim.Native.Nat.{ℕ, ◌+◌, ◌-◌, ◌<◌, max}
-use borrow.Author.Rules.{rules}
+use Prim.Native.Nat.{ℕ, ◌+◌, ◌-◌, ◌<◌}
 use lib.Bits.{and_le_r}
 use lib.Count.{count_trailing_zeros}
 use lib.ListN.{length}
 use mathlib.Core.Path.{◌≡◌, ap, ◌∙◌}
 use native.Mathlib.Omega.{arith}
-use Rattle.tables.specs.Adding.{added_at, most_added}
+use Rattle.tables.specs.Adding.{most_added}
 use Rattle.tables.specs.Followers.{gap_to}
 use Rattle.tables.proofs.Followers.{passing_row, passing_gap, passing_inside}
-use Rattle.blocks.proofs.Passing.{EachPassing, each_start, each_done, each_next}
+use Rattle.blocks.proofs.Passing.{each_start, each_done, each_next}
 use Rattle.blocks.proofs.interval.most_in_block.Goals as goal
 
 pub loop-rest-init : goal.loop-rest-init

@@ -1,6 +1,5 @@
 -- `raised` meets its contract: the gap fits every line, or none, or each line is looked at.
 use Prim.Native.Nat.{◌+◌, ◌-◌, ◌*◌, ◌<◌, max}
-use borrow.Author.Rules.{rules}
 use lib.ListN.{length, get_or}
 use mathlib.Core.Path.{◌∙◌, ap}
 use native.Mathlib.Omega.{arith}

@@ -1,11 +1,8 @@
-use Prim.Native.Nat.{◌+◌, ◌-◌, ◌*◌, ◌<◌, max}
-use borrow.Author.Rules.{rules}
-use lib.ListN.{length, get_or}
+use Prim.Native.Nat.{◌+◌, ◌-◌, ◌*◌, max}
+use lib.ListN.{get_or}
 use mathlib.Core.Path.{◌≡◌}
-use native.Mathlib.Omega.{arith}
-use Rattle.tables.proofs.Storing.{Stored, stored_none, stored_more}
+use Rattle.tables.proofs.Storing.{Stored}
 use Rattle.blocks.specs.Blocks.{block_size}
-use Rattle.blocks.proofs.Lanes.{lane_inside, all_stored}
 use Rattle.blocks.proofs.interval.raised_by.Given as goal
 
 abbrev pub invariant-loop-i : goal.invariant-loop-i

@@ -1,11 +1,9 @@
 -- `raised_late` meets its contract. The lines passed are raised.
-use Prim.Native.Nat.{◌+◌, ◌-◌, max}
-use borrow.Author.Rules.{rules}
-use lib.ListN.{length, get_or}
+use Prim.Native.Nat.{◌+◌}
+use lib.ListN.{length}
 use native.Mathlib.Omega.{arith}
-use Rattle.tables.specs.Adding.{added_at}
 use Rattle.tables.proofs.Lines.{room_for_fewer}
-use Rattle.tables.proofs.Storing.{Stored, stored_none, stored_more}
+use Rattle.tables.proofs.Storing.{stored_none, stored_more}
 use Rattle.blocks.specs.Blocks.{block_size}
 use Rattle.blocks.proofs.Lanes.{lines_few, all_stored}
 use Rattle.blocks.proofs.interval.raised_late.Goals as goal

@@ -1,12 +1,8 @@
 use Prim.Native.Nat.{◌+◌, ◌-◌, max}
-use borrow.Author.Rules.{rules}
-use lib.ListN.{length, get_or}
-use native.Mathlib.Omega.{arith}
+use lib.ListN.{get_or}
 use Rattle.tables.specs.Adding.{added_at}
-use Rattle.tables.proofs.Lines.{room_for_fewer}
-use Rattle.tables.proofs.Storing.{Stored, stored_none, stored_more}
+use Rattle.tables.proofs.Storing.{Stored}
 use Rattle.blocks.specs.Blocks.{block_size}
-use Rattle.blocks.proofs.Lanes.{lines_few, all_stored}
 use Rattle.blocks.proofs.interval.raised_late.Given as goal
 
 abbrev pub invariant-loop-i : goal.invariant-loop-i

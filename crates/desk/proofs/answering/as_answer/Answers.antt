@@ -2,7 +2,6 @@
 use Rattle.overruns.specs.Sweeping.{verdict_of}
 use Rattle.overruns.specs.declared.sweep.Swept.{Swept}
 use Rattle.desk.specs.Calls.{verdict_answer}
-use borrow.Author.Rules.{rules}
 use mathlib.Core.Path.{sym, ap}
 use Rattle.desk.proofs.answering.as_answer.Goals as goal
 

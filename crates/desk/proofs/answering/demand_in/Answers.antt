@@ -6,9 +6,8 @@ use Rattle.desk.proofs.Telling.{room_told, lines_told, demand_as, demand_shown}
 use Rattle.desk.specs.Calls.{DemandAnswers}
 use Rattle.meaning.specs.Cells.{ByInterval}
 use Rattle.witness.specs.declared.Shown.{Shown}
-use borrow.Author.Rules.{rules}
 use lib.ListN.{length}
-use mathlib.Core.Path.{◌≡◌, subst}
+use mathlib.Core.Path.{subst}
 use native.Mathlib.Omega.{arith}
 use Rattle.desk.proofs.answering.demand_in.Goals as goal
 

@@ -5,7 +5,6 @@ use Rattle.tables.specs.Lines.{HasLines}
 use Rattle.desk.proofs.Telling.{tasks_proper, room_told, lines_told, margin_told, difference_kept}
 use Rattle.overruns.proofs.ProperTasks.{tasks_fit}
 use Rattle.meaning.specs.Cells.{ByInterval}
-use borrow.Author.Rules.{rules}
 use lib.ListN.{length}
 use lib.IntN.{ℤ, pos, ◌-ℤ◌}
 use mathlib.Core.Path.{◌≡◌, ◌∙◌, sym, ap, subst}

@@ -2,7 +2,6 @@
 use Prim.Native.Nat.{◌*◌, ◌≤◌}
 use Rattle.desk.proofs.Telling.{room_told, shortest_answers, gives_none, gives_time}
 use Rattle.tables.proofs.Lines.{room_for_fewer}
-use borrow.Author.Rules.{rules}
 use lib.ListN.{length}
 use native.Mathlib.Omega.{arith}
 use Rattle.desk.proofs.answering.shortest_in.Goals as goal

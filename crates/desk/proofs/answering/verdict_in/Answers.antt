@@ -2,7 +2,6 @@
 use Prim.Native.Nat.{ℕ, ◌+◌, ◌*◌, ◌≤◌}
 use Rattle.tables.proofs.Lines.{room_for_fewer}
 use Rattle.desk.proofs.Telling.{tasks_proper, room_told, verdict_told}
-use borrow.Author.Rules.{rules}
 use lib.ListN.{length}
 use mathlib.Core.Path.{sym, subst}
 use native.Mathlib.Omega.{arith}

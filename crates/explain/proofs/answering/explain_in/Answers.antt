@@ -12,7 +12,6 @@ use Rattle.overruns.specs.Releases.{counted_tasks}
 use Rattle.tables.proofs.Lines.{filled_lines, room_for_fewer}
 use Rattle.tables.specs.Lines.{HasLines}
 use Rattle.witness.specs.Stands.{IsShown}
-use borrow.Author.Rules.{rules}
 use lib.ListN.{length}
 use mathlib.Core.Path.{◌≡◌, subst}
 use native.Mathlib.Omega.{arith}

@@ -2,7 +2,6 @@
 use Prim.Native.Nat.{◌^◌, ◌<◌}
 use Rattle.explain.proofs.Telling.{too_long_told, numbers_told}
 use Rattle.overruns.proofs.ProperTasks.{tasks_fit}
-use borrow.Author.Rules.{rules}
 use native.Mathlib.Omega.{arith}
 use Rattle.explain.proofs.answering.overrun_at.Goals as goal
 

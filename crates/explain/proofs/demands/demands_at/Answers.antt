@@ -1,9 +1,7 @@
 -- `demands_at` meets its contract. The tasks passed have their demands in the array.
-use Prim.Native.Nat.{◌-◌, ◌≤◌, ◌<◌}
-use Rattle.explain.proofs.TaskDemands.{demands_up_to, demand_more, demands_whole}
+use Prim.Native.Nat.{◌<◌}
+use Rattle.explain.proofs.TaskDemands.{demand_more, demands_whole}
 use Rattle.fields.specs.Limits.{task_limit}
-use Rattle.overruns.specs.Releases.{counted_tasks}
-use borrow.Author.Rules.{rules}
 use mathlib.Core.Path.{◌≡◌, refl, ◌∙◌}
 use native.Mathlib.Omega.{arith}
 use Rattle.explain.proofs.demands.demands_at.Goals as goal

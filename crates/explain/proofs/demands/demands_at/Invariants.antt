@@ -1,10 +1,7 @@
-use Prim.Native.Nat.{◌-◌, ◌≤◌, ◌<◌}
-use Rattle.explain.proofs.TaskDemands.{demands_up_to, demand_more, demands_whole}
-use Rattle.fields.specs.Limits.{task_limit}
+use Prim.Native.Nat.{◌-◌, ◌≤◌}
+use Rattle.explain.proofs.TaskDemands.{demands_up_to}
 use Rattle.overruns.specs.Releases.{counted_tasks}
-use borrow.Author.Rules.{rules}
-use mathlib.Core.Path.{◌≡◌, refl, ◌∙◌}
-use native.Mathlib.Omega.{arith}
+use mathlib.Core.Path.{◌≡◌}
 use Rattle.explain.proofs.demands.demands_at.Given as goal
 
 abbrev pub invariant-loop-i : goal.invariant-loop-i

@@ -1,13 +1,12 @@
 -- `look_over` meets its contract. Fixed demand runs along with the intervals, none of those passed is overrun, and the smallest margin is theirs.
-use Prim.Native.Nat.{◌+◌, ◌-◌, ◌*◌, ◌^◌, ◌≤◌, ◌<◌}
-use Rattle.explain.proofs.Narrowing.{demand_there, LookingOver, looking_start, looking_smaller, looking_kept, looking_overrun, looking_done}
+use Prim.Native.Nat.{◌+◌, ◌*◌, ◌^◌, ◌≤◌, ◌<◌}
+use Rattle.explain.proofs.Narrowing.{demand_there, looking_start, looking_smaller, looking_kept, looking_overrun, looking_done}
 use Rattle.explain.specs.Looking.{Shows}
 use Rattle.overruns.proofs.Releases.{Running}
 use Rattle.overruns.proofs.ProperTasks.{tasks_count, tasks_fit, running_start}
 use Rattle.overruns.proofs.Sweeping.{table_decides, running_next}
 use Rattle.overruns.specs.Releases.{counted_tasks}
 use Rattle.tables.specs.declared.Table.TheVariants.{Interval}
-use borrow.Author.Rules.{rules}
 use lib.ListN.{length}
 use mathlib.Core.Path.{◌≡◌, sym, subst}
 use native.Mathlib.Nat.{mul-le-mul}

@@ -1,5 +1,4 @@
 -- `byte_at` meets its contract: past the end the definition has 0 too.
-use borrow.Author.Rules.{rules}
 use lib.ListN.{get_or-eq_default}
 use mathlib.Core.Path.{sym}
 use Rattle.fields.proofs.reader.byte_at.Goals as goal

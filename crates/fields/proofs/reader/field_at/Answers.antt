@@ -2,7 +2,6 @@
 use Prim.Native.Nat.{◌+◌, ◌≤◌}
 use Rattle.fields.proofs.Deciding.{judging, told_le, kept}
 use Rattle.fields.specs.Reading.{field_at}
-use borrow.Author.Rules.{rules}
 use lib.ListN.{length}
 use native.Mathlib.Omega.{arith}
 use Rattle.fields.proofs.reader.field_at.Goals as goal

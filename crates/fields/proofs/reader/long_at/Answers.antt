@@ -1,7 +1,6 @@
 -- `long_at` meets its contract: where the third byte is past the end, the low half is 0.
 use Prim.Native.Nat.{◌+◌, ◌≤◌, ◌<◌}
 use Rattle.fields.proofs.Deciding.{told_lt, told_le}
-use borrow.Author.Rules.{rules}
 use lib.ListN.{length, get_or-eq_default}
 use native.Mathlib.Omega.{arith}
 use Rattle.fields.proofs.reader.long_at.Goals as goal

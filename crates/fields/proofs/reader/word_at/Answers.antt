@@ -1,6 +1,5 @@
 -- `word_at` meets its contract: past the end both bytes are 0.
 use Prim.Native.Nat.{◌+◌, ◌≤◌}
-use borrow.Author.Rules.{rules}
 use lib.ListN.{length, get_or-eq_default}
 use native.Mathlib.Omega.{arith}
 use Rattle.fields.proofs.reader.word_at.Goals as goal

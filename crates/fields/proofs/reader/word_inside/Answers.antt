@@ -1,5 +1,4 @@
 -- `word_inside` meets its contract.
-use borrow.Author.Rules.{rules}
 use Rattle.fields.proofs.reader.word_inside.Goals as goal
 
 pub returns : goal.returns

@@ -1,7 +1,6 @@
 -- `line_of` meets its contract: the constant table is the definition's, which has a line for tag 0 in front.
 use Prim.Native.Nat.{suc, ◌-◌}
 use Rattle.fields.specs.Fields.{line_of, fields, no_line}
-use borrow.Author.Rules.{rules}
 use lib.ListN.{get_or-eq_default}
 use mathlib.Core.List.{◌∷◌}
 use mathlib.Core.Path.{◌≡◌, ◌∙◌, sym, ap}

@@ -1,5 +1,4 @@
 -- `refused_tag` meets its contract: the kind of the tag decides.
-use borrow.Author.Rules.{rules}
 use Rattle.fields.proofs.table.refused_tag.Goals as goal
 
 pub returns-in-RefusedTag : goal.returns-in-RefusedTag

@@ -1,6 +1,5 @@
 -- `over_at` meets its contract.
 use Prim.Native.Nat.{ℕ, ◌+◌}
-use borrow.Author.Rules.{rules}
 use lib.Dec.{ltb}
 use mathlib.Core.Path.{ap}
 use Rattle.overruns.proofs.sweep.over_at.Goals as goal

@@ -1,7 +1,6 @@
 -- `overrun_at` meets its contract: each table has its own test.
 use Rattle.overruns.specs.Sweeping.{overrun_at}
 use Rattle.tables.specs.declared.Table.{Table}
-use borrow.Author.Rules.{rules}
 use mathlib.Core.Path.{sym, ap, ◌∙◌}
 use Rattle.overruns.proofs.sweep.overrun_at.Goals as goal
 

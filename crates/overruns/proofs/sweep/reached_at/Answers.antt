@@ -1,6 +1,5 @@
 -- `reached_at` meets its contract: the line of what is left is no later than that of the interval.
 use Prim.Native.Nat.{ℕ, ◌+◌, ◌-◌, ◌*◌, ◌≤◌}
-use borrow.Author.Rules.{rules}
 use borrow.Author.Tests.{lt-ltb, le-ltb}
 use lib.Dec.{leb}
 use mathlib.Core.Path.{ap}

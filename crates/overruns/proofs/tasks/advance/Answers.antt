@@ -1,11 +1,8 @@
 -- `advance` meets its contract. The tasks passed are done, and the others still wait for the jobs that they had.
-use Prim.Native.Nat.{◌-◌, ◌*◌, ◌≤◌, ◌<◌}
-use Rattle.overruns.proofs.Releases.{Advancing, advancing_start, advancing_now, advancing_later}
+use Prim.Native.Nat.{◌<◌}
+use Rattle.overruns.proofs.Releases.{advancing_start, advancing_now, advancing_later}
 use Rattle.fields.specs.Limits.{task_limit}
-use Rattle.meaning.specs.Demand.{longest_time}
-use borrow.Author.Rules.{rules}
 use lib.ListN.{length}
-use mathlib.Core.Logic.{⊎_elim}
 use mathlib.Core.Path.{◌≡◌}
 use native.Mathlib.Omega.{arith}
 use Rattle.overruns.proofs.tasks.advance.Goals.{then-dues-i, else-dues-i}
@@ -59,12 +56,12 @@ loop-i-preserved c =
     let l = c.loop-i in
     let inside : l.i < length l.dues = omega (arith, few, l.invariant.2.done.same_length, c.requires.dues_len) in
     elim c.if-dues-i.branch [
-      then-dues-i w ↦ (
+      | then-dues-i w ↦ (
         omega arith,
         omega (arith, w.work-is, w.wide-work.ensures.1, l.invariant.1),
         rw (w.dues-is, w.work-is, w.wide-work.ensures.0, w.wide.ensures.0) (advancing_now _ _ _ _ _ _ _ l.invariant.2 w.if-dues-i.true inside),
       )
-    | else-dues-i w ↦ (omega arith, omega (arith, w.work-is, l.invariant.1), rw (w.dues-is, w.work-is) (advancing_later _ _ _ _ _ _ _ l.invariant.2 w.if-dues-i.false))
+      | else-dues-i w ↦ (omega arith, omega (arith, w.work-is, l.invariant.1), rw (w.dues-is, w.work-is) (advancing_later _ _ _ _ _ _ _ l.invariant.2 w.if-dues-i.false))
     ]
 
 pub returns : goal.returns

@@ -1,12 +1,6 @@
-use Prim.Native.Nat.{◌-◌, ◌*◌, ◌≤◌, ◌<◌}
-use Rattle.overruns.proofs.Releases.{Advancing, advancing_start, advancing_now, advancing_later}
-use Rattle.fields.specs.Limits.{task_limit}
+use Prim.Native.Nat.{◌-◌, ◌*◌, ◌≤◌}
+use Rattle.overruns.proofs.Releases.{Advancing}
 use Rattle.meaning.specs.Demand.{longest_time}
-use borrow.Author.Rules.{rules}
-use lib.ListN.{length}
-use mathlib.Core.Logic.{⊎_elim}
-use mathlib.Core.Path.{◌≡◌}
-use native.Mathlib.Omega.{arith}
 use Rattle.overruns.proofs.tasks.advance.Given as goal
 
 abbrev pub invariant-loop-i : goal.invariant-loop-i

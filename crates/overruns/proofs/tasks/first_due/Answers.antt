@@ -1,7 +1,6 @@
 -- `first_due` meets its contract.
 use Rattle.fields.proofs.Deciding.{told_lt, told_le}
 use Prim.Native.Nat.{◌≤◌, ◌<◌}
-use borrow.Author.Rules.{rules}
 use mathlib.Core.Path.{refl}
 use native.Mathlib.Omega.{arith}
 use Rattle.overruns.proofs.tasks.first_due.Goals as goal

@@ -3,7 +3,6 @@ use Prim.Native.Nat.{ℕ, ◌+◌, ◌-◌, ◌*◌, ◌/◌, ◌≤◌}
 use Rattle.sheet.specs.Meaning.{times_of}
 use Rattle.meaning.proofs.FixedTasks.{fixed_before, fixed_from}
 use Rattle.meaning.specs.Demand.{longest_time}
-use borrow.Author.Rules.{rules}
 use mathlib.Core.Path.{◌≡◌, ◌∙◌, sym, ap}
 use native.Mathlib.Nat.{div-le_self, mul-le-mul}
 use native.Mathlib.Omega.{arith}

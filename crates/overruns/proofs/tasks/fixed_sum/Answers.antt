@@ -1,11 +1,9 @@
 -- `fixed_sum` meets its contract. The sum so far is that of the tasks passed.
-use Prim.Native.Nat.{ℕ, ◌+◌, ◌-◌, ◌*◌, ◌≤◌, ◌<◌}
+use Prim.Native.Nat.{ℕ, ◌+◌, ◌<◌}
 use Rattle.overruns.proofs.ProperTasks.{sum_more, sum_all}
 use Rattle.fields.specs.Limits.{task_limit}
 use Rattle.overruns.specs.Releases.{counted_tasks}
-use Rattle.meaning.specs.Demand.{longest_time}
 use Rattle.meaning.specs.Fixed.{fixed_sum}
-use borrow.Author.Rules.{rules}
 use lib.ListN.{take}
 use mathlib.Core.Path.{◌≡◌, refl, sym, ap, ap₂, ◌∙◌}
 use native.Mathlib.Omega.{arith}

@@ -1,13 +1,9 @@
-use Prim.Native.Nat.{ℕ, ◌+◌, ◌-◌, ◌*◌, ◌≤◌, ◌<◌}
-use Rattle.overruns.proofs.ProperTasks.{sum_more, sum_all}
-use Rattle.fields.specs.Limits.{task_limit}
+use Prim.Native.Nat.{◌+◌, ◌-◌, ◌*◌, ◌≤◌}
 use Rattle.overruns.specs.Releases.{counted_tasks}
 use Rattle.meaning.specs.Demand.{longest_time}
 use Rattle.meaning.specs.Fixed.{fixed_sum}
-use borrow.Author.Rules.{rules}
 use lib.ListN.{take}
-use mathlib.Core.Path.{◌≡◌, refl, sym, ap, ap₂, ◌∙◌}
-use native.Mathlib.Omega.{arith}
+use mathlib.Core.Path.{◌≡◌}
 use Rattle.overruns.proofs.tasks.fixed_sum.Given as goal
 
 abbrev pub invariant-loop-i : goal.invariant-loop-i

@@ -1,11 +1,7 @@
 -- `times_of` meets its contract. The arrays hold the times of the tasks passed.
-use Prim.Native.Nat.{◌-◌, ◌≤◌, ◌<◌}
-use Rattle.tables.proofs.Storing.{Stored, stored_none, stored_more}
-use Rattle.overruns.specs.Releases.{first_due}
+use Prim.Native.Nat.{◌<◌}
+use Rattle.tables.proofs.Storing.{stored_none, stored_more}
 use Rattle.fields.specs.Limits.{task_limit}
-use Rattle.fields.specs.Values.{no_task}
-use borrow.Author.Rules.{rules}
-use lib.ListN.{get_or}
 use mathlib.Core.Path.{◌≡◌, refl}
 use native.Mathlib.Omega.{arith}
 use Rattle.overruns.proofs.tasks.times_of.Goals as goal

@@ -1,12 +1,9 @@
-use Prim.Native.Nat.{◌-◌, ◌≤◌, ◌<◌}
-use Rattle.tables.proofs.Storing.{Stored, stored_none, stored_more}
+use Prim.Native.Nat.{◌-◌, ◌≤◌}
+use Rattle.tables.proofs.Storing.{Stored}
 use Rattle.overruns.specs.Releases.{first_due}
 use Rattle.fields.specs.Limits.{task_limit}
 use Rattle.fields.specs.Values.{no_task}
-use borrow.Author.Rules.{rules}
 use lib.ListN.{get_or}
-use mathlib.Core.Path.{◌≡◌, refl}
-use native.Mathlib.Omega.{arith}
 use Rattle.overruns.proofs.tasks.times_of.Given as goal
 
 abbrev pub invariant-loop-i : goal.invariant-loop-i

@@ -1,5 +1,4 @@
 -- `whole_periods` meets its contract.
-use borrow.Author.Rules.{rules}
 use mathlib.Core.Path.{refl}
 use Rattle.overruns.proofs.tasks.whole_periods.Goals as goal
 

@@ -1,11 +1,7 @@
 -- `bad_text` meets its contract. The bytes that are left decide as all of them do.
-use Prim.Native.Nat.{◌-◌, ◌≤◌}
 use Rattle.fields.proofs.Deciding.{told, any_hit, any_miss, any_none}
-use Rattle.fields.specs.Deciding.{any_from}
-use Rattle.rules.specs.Rules.{bad_byte, bad_text}
-use borrow.Author.Rules.{rules}
-use lib.ListN.{length, get_or}
-use mathlib.Core.Path.{◌≡◌, ◌∙◌, refl, sym}
+use Rattle.rules.specs.Rules.{bad_text}
+use mathlib.Core.Path.{◌∙◌, refl, sym}
 use native.Mathlib.Nat.{add-sub_cancel_left}
 use native.Mathlib.Omega.{arith}
 use Rattle.rules.proofs.text.bad_text.Goals as goal

@@ -2,7 +2,6 @@
 use Rattle.fields.proofs.Deciding.{judging}
 use Rattle.fields.specs.Deciding.{first_broken}
 use Rattle.rules.specs.Rules.{text_rules}
-use borrow.Author.Rules.{rules}
 use Rattle.rules.proofs.text.text_number.Goals as goal
 
 pub returns-then-bad_text : goal.returns-then-bad_text

@@ -1,6 +1,5 @@
 -- `fallback_at` meets its contract: the word that it reads is the definition's.
 use Rattle.fields.proofs.Deciding.{yes, no}
-use borrow.Author.Rules.{rules}
 use borrow.Author.Tests.{eq-eqb, ne_eqb}
 use mathlib.Core.Path.{refl}
 use Rattle.sheet.proofs.judging.fallback_at.Goals as goal

@@ -1,7 +1,6 @@
 -- `field_number` meets its contract: the first rules, then those behind.
 use Rattle.fields.proofs.Deciding.{pass, stop}
 use Rattle.sheet.proofs.Numbered.{head_numbered}
-use borrow.Author.Rules.{rules}
 use Rattle.sheet.proofs.judging.field_number.Goals as goal
 
 pub returns-then-number-ne0 : goal.returns-then-number-ne0

@@ -1,14 +1,8 @@
 -- `gap_shorter` meets its contract. The gaps that are left decide as all of them do.
-use Prim.Native.Nat.{◌+◌, ◌-◌, ◌*◌}
 use Rattle.fields.proofs.Deciding.{told, any_hit, any_miss, any_none}
-use Rattle.fields.specs.Deciding.{any_from}
-use Rattle.fields.specs.Reading.{word_at}
 use Rattle.sheet.specs.Content.{gap_shorter}
-use borrow.Author.Rules.{rules}
-use lib.Dec.{ltb}
-use mathlib.Core.Path.{◌≡◌, ◌∙◌, refl, sym}
+use mathlib.Core.Path.{◌∙◌, refl, sym}
 use native.Mathlib.Nat.{sub-zero}
-use native.Mathlib.Omega.{arith}
 use Rattle.sheet.proofs.judging.gap_shorter.Goals as goal
 
 pub loop-passed-init : goal.loop-passed-init

@@ -1,13 +1,9 @@
 use Prim.Native.Nat.{◌+◌, ◌-◌, ◌*◌}
-use Rattle.fields.proofs.Deciding.{told, any_hit, any_miss, any_none}
 use Rattle.fields.specs.Deciding.{any_from}
 use Rattle.fields.specs.Reading.{word_at}
 use Rattle.sheet.specs.Content.{gap_shorter}
-use borrow.Author.Rules.{rules}
 use lib.Dec.{ltb}
-use mathlib.Core.Path.{◌≡◌, ◌∙◌, refl, sym}
-use native.Mathlib.Nat.{sub-zero}
-use native.Mathlib.Omega.{arith}
+use mathlib.Core.Path.{◌≡◌}
 use Rattle.sheet.proofs.judging.gap_shorter.Given as goal
 
 abbrev pub invariant-loop-passed : goal.invariant-loop-passed

@@ -1,7 +1,6 @@
 -- `head_number` meets its contract: each arm has the rules of its kind.
 use Rattle.fields.specs.Deciding.{pick, first_broken}
 use Rattle.sheet.specs.Judging.{head_rules}
-use borrow.Author.Rules.{rules}
 use mathlib.Core.Path.{refl}
 use Rattle.sheet.proofs.judging.head_number.Goals as goal
 

@@ -1,6 +1,5 @@
 -- `jitter_at` meets its contract: 0, or the word that the definition reads.
 use Rattle.fields.proofs.Deciding.{yes, no}
-use borrow.Author.Rules.{rules}
 use borrow.Author.Tests.{eq-eqb, ne_eqb}
 use mathlib.Core.Path.{refl}
 use Rattle.sheet.proofs.judging.jitter_at.Goals as goal

@@ -2,7 +2,6 @@
 use Prim.Native.Nat.{◌<◌}
 use Rattle.fields.proofs.Deciding.{yes, no, told}
 use Rattle.fields.specs.Limits.{row_limit}
-use borrow.Author.Rules.{rules}
 use mathlib.Core.Path.{refl}
 use native.Mathlib.Omega.{arith}
 use Rattle.sheet.proofs.judging.keep_place.Goals as goal

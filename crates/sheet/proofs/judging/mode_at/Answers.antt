@@ -1,5 +1,4 @@
 -- `mode_at` meets its contract: its words are those of the definition.
-use borrow.Author.Rules.{rules}
 use mathlib.Core.Path.{refl}
 use Rattle.sheet.proofs.judging.mode_at.Goals as goal
 

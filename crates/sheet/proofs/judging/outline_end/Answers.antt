@@ -2,7 +2,6 @@
 use Rattle.fields.proofs.Deciding.{yes, no, told}
 use Rattle.sheet.specs.Judging.{end_judged}
 use Rattle.sheet.specs.Outline.{outline_of}
-use borrow.Author.Rules.{rules}
 use borrow.Author.Tests.{lt-ltb, le-ltb}
 use mathlib.Core.Path.{◌∙◌, refl, ap}
 use Rattle.sheet.proofs.judging.outline_end.Goals as goal

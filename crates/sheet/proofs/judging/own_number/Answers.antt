@@ -3,7 +3,6 @@ use Rattle.sheet.proofs.Numbered.{head_kept, RowFits, mode_fits, row_fits, task_
 use Rattle.fields.proofs.Deciding.{Kept}
 use Rattle.fields.specs.Deciding.{first_broken}
 use Rattle.sheet.specs.Judging.{head_rules, own_rules}
-use borrow.Author.Rules.{rules}
 use mathlib.Core.Path.{refl}
 use native.Mathlib.Omega.{arith}
 use Rattle.sheet.proofs.judging.own_number.Goals as goal

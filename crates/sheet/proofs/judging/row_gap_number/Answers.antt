@@ -1,6 +1,5 @@
 -- `row_gap_number` meets its contract: two looks at the gaps answer what the rules ask of them.
 use Rattle.sheet.specs.Content.{row_gap_rules}
-use borrow.Author.Rules.{rules}
 use Rattle.sheet.proofs.judging.row_gap_number.Goals as goal
 
 pub returns : goal.returns

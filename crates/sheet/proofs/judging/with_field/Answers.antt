@@ -6,7 +6,6 @@ use Rattle.sheet.specs.Judging.{head_rules, with_field}
 use Rattle.fields.specs.Limits.{mode_limit, task_limit}
 use Rattle.sheet.specs.Outline.{head_of, sheet_from}
 use Rattle.sheet.specs.Values.{with_mode, with_row, with_task}
-use borrow.Author.Rules.{rules}
 use mathlib.Core.List.{[]}
 use mathlib.Core.Path.{◌∙◌, refl, ap}
 use native.Mathlib.Omega.{arith}

@@ -1,5 +1,4 @@
 -- `with_row` meets its contract: the tally counts the row, which is all that the head has of it.
-use borrow.Author.Rules.{rules}
 use mathlib.Core.Path.{refl}
 use Rattle.sheet.proofs.judging.with_row.Goals as goal
 

@@ -1,5 +1,4 @@
 -- `with_task` meets its contract: the task is stored, and the tally counts it.
-use borrow.Author.Rules.{rules}
 use mathlib.Core.Path.{refl}
 use Rattle.sheet.proofs.judging.with_task.Goals as goal
 

@@ -1,5 +1,4 @@
 -- `row_at` meets its contract: its words are those of the definition.
-use borrow.Author.Rules.{rules}
 use Prim.Native.Nat.{◌+◌, ◌*◌}
 use Rattle.fields.specs.Limits.{head_size}
 use Rattle.sheet.proofs.rows.row_at.Goals as goal

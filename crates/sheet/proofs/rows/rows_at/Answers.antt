@@ -1,8 +1,6 @@
 -- `rows_at` meets its contract. The rows passed are there, and behind them are zeros.
-use Prim.Native.Nat.{◌-◌, ◌≤◌}
 use mathlib.Core.Path.{◌≡◌}
 use native.Mathlib.Omega.{arith}
-use Rattle.sheet.specs.Outline.{RowsFrom}
 use Rattle.sheet.proofs.RowPlaces.{rows_none, rows_more}
 use Rattle.sheet.proofs.rows.rows_at.Goals as goal
 

@@ -1,8 +1,5 @@
 use Prim.Native.Nat.{◌-◌, ◌≤◌}
-use mathlib.Core.Path.{◌≡◌}
-use native.Mathlib.Omega.{arith}
 use Rattle.sheet.specs.Outline.{RowsFrom}
-use Rattle.sheet.proofs.RowPlaces.{rows_none, rows_more}
 use Rattle.sheet.proofs.rows.rows_at.Given as goal
 
 abbrev pub invariant-loop-filled : goal.invariant-loop-filled

@@ -1,15 +1,7 @@
 -- `unknown_follower` meets its contract. The rows that are left decide as all of them do.
-use Prim.Native.Nat.{◌-◌}
 use Rattle.fields.proofs.Deciding.{told, any_hit, any_miss, any_none}
-use Rattle.fields.specs.Deciding.{any_from}
-use Rattle.fields.specs.Values.{no_row}
-use Rattle.fields.specs.declared.values.Row.{Row}
-use Rattle.rules.specs.Rules.{unknown_in, unknown_follower}
-use Rattle.sheet.specs.Outline.{RowsFrom}
-use borrow.Author.Rules.{rules}
-use lib.ListN.{get_or}
-use mathlib.Core.List.{List}
-use mathlib.Core.Path.{◌≡◌, ◌∙◌, refl, sym}
+use Rattle.rules.specs.Rules.{unknown_follower}
+use mathlib.Core.Path.{◌∙◌, refl, sym}
 use native.Mathlib.Nat.{sub-zero}
 use native.Mathlib.Omega.{arith}
 use Rattle.sheet.proofs.rows.unknown_follower.Goals as goal

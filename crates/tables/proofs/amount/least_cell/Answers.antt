@@ -5,7 +5,6 @@ use Rattle.tables.proofs.Followers.{row_followed}
 use Rattle.sheet.specs.Meaning.{gap_of}
 use Rattle.meaning.proofs.ByAmount.{least_one, least_done}
 use Rattle.meaning.specs.Computed.{cell_for}
-use borrow.Author.Rules.{rules}
 use mathlib.Core.Path.{◌≡◌}
 use native.Mathlib.Nat.{mul-le-mul}
 use native.Mathlib.Omega.{arith}

@@ -1,10 +1,9 @@
 -- `shortest_of` meets its contract. What is found so far is the smallest of the cells passed.
-use Prim.Native.Nat.{ℕ, ◌+◌, ◌-◌, ◌*◌, ◌≤◌, ◌<◌}
+use Prim.Native.Nat.{ℕ, ◌+◌, ◌-◌, ◌*◌, ◌<◌}
 use Rattle.tables.proofs.Lines.{in_lines}
 use Rattle.meaning.proofs.Folds.{min_more}
 use Rattle.meaning.specs.Computed.{cell_for, min_below}
 use Rattle.meaning.specs.Demand.{no_time}
-use borrow.Author.Rules.{rules}
 use lib.ListN.{length}
 use mathlib.Core.Path.{◌≡◌, ap, ◌∙◌}
 use native.Mathlib.Omega.{arith}

@@ -1,12 +1,7 @@
-use Prim.Native.Nat.{ℕ, ◌+◌, ◌-◌, ◌*◌, ◌≤◌, ◌<◌}
-use Rattle.tables.proofs.Lines.{in_lines}
-use Rattle.meaning.proofs.Folds.{min_more}
+use Prim.Native.Nat.{◌-◌, ◌≤◌}
 use Rattle.meaning.specs.Computed.{cell_for, min_below}
 use Rattle.meaning.specs.Demand.{no_time}
-use borrow.Author.Rules.{rules}
-use lib.ListN.{length}
-use mathlib.Core.Path.{◌≡◌, ap, ◌∙◌}
-use native.Mathlib.Omega.{arith}
+use mathlib.Core.Path.{◌≡◌}
 use Rattle.tables.proofs.amount.shortest_of.Given as goal
 
 abbrev pub invariant-loop-k : goal.invariant-loop-k

@@ -1,12 +1,10 @@
 -- `soonest_via` meets its contract. What is found so far is the soonest by way of the followers passed, and the place is that of the next gap.
 use Prim.Native.Nat.{ℕ, ◌+◌, ◌-◌, ◌*◌, ◌<◌, min}
-use Rattle.tables.proofs.Followers.{Passing, passing_start, passing_done, passing_row, passing_gap, passing_inside, passing_next}
+use Rattle.tables.proofs.Followers.{passing_start, passing_done, passing_row, passing_gap, passing_inside, passing_next}
 use Rattle.tables.proofs.Lines.{in_lines}
-use Rattle.tables.specs.Amounts.{sooner_via, soonest_via}
+use Rattle.tables.specs.Amounts.{soonest_via}
 use Rattle.fields.specs.declared.units.Ticks.{Ticks}
 use Rattle.meaning.specs.Computed.{cell_at, time_or_none}
-use Rattle.meaning.specs.Demand.{no_time}
-use borrow.Author.Rules.{rules}
 use lib.Bits.{and_le_r}
 use lib.Count.{count_trailing_zeros}
 use lib.ListN.{length}

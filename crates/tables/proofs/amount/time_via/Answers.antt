@@ -1,7 +1,6 @@
 -- `time_via` meets its contract: a sum beyond the longest time is no time.
 use Prim.Native.Nat.{◌+◌}
 use Rattle.meaning.proofs.ByAmount.{time_kept, time_none}
-use borrow.Author.Rules.{rules}
 use mathlib.Core.Path.{sym}
 use native.Mathlib.Omega.{arith}
 use Rattle.tables.proofs.amount.time_via.Goals as goal

@@ -1,6 +1,5 @@
 -- `added` meets its contract.
 use Prim.Native.Nat.{◌+◌, ◌-◌, ◌*◌, ◌<◌}
-use borrow.Author.Rules.{rules}
 use lib.ListN.{length}
 use native.Mathlib.Omega.{arith}
 use Rattle.tables.proofs.Adding.{added_late, added_cell}

@@ -1,6 +1,5 @@
 -- `cell` meets its contract.
 use Prim.Native.Nat.{◌+◌}
-use borrow.Author.Rules.{rules}
 use mathlib.Core.Path.{◌≡◌}
 use native.Mathlib.Omega.{arith}
 use Rattle.meaning.proofs.ByInterval.{step_late, step_done}

@@ -1,10 +1,9 @@
 -- `demand_of` meets its contract. What is found so far is the largest of the cells passed.
-use Prim.Native.Nat.{◌+◌, ◌-◌, ◌*◌, ◌≤◌, ◌<◌}
-use borrow.Author.Rules.{rules}
+use Prim.Native.Nat.{◌+◌, ◌*◌, ◌<◌}
 use lib.ListN.{length}
 use mathlib.Core.Path.{◌≡◌, refl}
 use native.Mathlib.Omega.{arith}
-use Rattle.meaning.specs.Computed.{cell_at, max_below}
+use Rattle.meaning.specs.Computed.{cell_at}
 use Rattle.meaning.proofs.Folds.{max_more}
 use Rattle.tables.proofs.Lines.{in_lines}
 use Rattle.tables.proofs.interval.demand_of.Goals as goal

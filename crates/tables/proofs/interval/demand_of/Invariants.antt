@@ -1,11 +1,6 @@
-use Prim.Native.Nat.{◌+◌, ◌-◌, ◌*◌, ◌≤◌, ◌<◌}
-use borrow.Author.Rules.{rules}
-use lib.ListN.{length}
-use mathlib.Core.Path.{◌≡◌, refl}
-use native.Mathlib.Omega.{arith}
+use Prim.Native.Nat.{◌-◌, ◌≤◌}
+use mathlib.Core.Path.{◌≡◌}
 use Rattle.meaning.specs.Computed.{cell_at, max_below}
-use Rattle.meaning.proofs.Folds.{max_more}
-use Rattle.tables.proofs.Lines.{in_lines}
 use Rattle.tables.proofs.interval.demand_of.Given as goal
 
 abbrev pub invariant-loop-k : goal.invariant-loop-k

@@ -1,5 +1,4 @@
 -- `gap_at` meets its contract.
-use borrow.Author.Rules.{rules}
 use mathlib.Core.Path.{refl}
 use Rattle.tables.proofs.interval.gap_at.Goals as goal
 

@@ -1,14 +1,13 @@
 -- `most_added` meets its contract. What is left of the set, the place of the next gap and the most so far go together.
-use Prim.Native.Nat.{ℕ, ◌+◌, ◌-◌, ◌<◌, max}
-use borrow.Author.Rules.{rules}
+use Prim.Native.Nat.{ℕ, ◌+◌, ◌-◌, ◌<◌}
 use lib.Bits.{and_le_r}
 use lib.Count.{count_trailing_zeros}
 use lib.ListN.{length}
 use mathlib.Core.Path.{◌≡◌, ap, ◌∙◌}
 use native.Mathlib.Omega.{arith}
 use Rattle.tables.specs.Followers.{gap_to}
-use Rattle.tables.specs.Adding.{added_at, most_added}
-use Rattle.tables.proofs.Followers.{Passing, passing_start, passing_done, passing_row, passing_gap, passing_inside, passing_next}
+use Rattle.tables.specs.Adding.{most_added}
+use Rattle.tables.proofs.Followers.{passing_start, passing_done, passing_row, passing_gap, passing_inside, passing_next}
 use Rattle.tables.proofs.interval.most_added.Goals as goal
 
 pub loop-rest-init : goal.loop-rest-init

@@ -1,13 +1,7 @@
-use Prim.Native.Nat.{ℕ, ◌+◌, ◌-◌, ◌<◌, max}
-use borrow.Author.Rules.{rules}
-use lib.Bits.{and_le_r}
-use lib.Count.{count_trailing_zeros}
-use lib.ListN.{length}
-use mathlib.Core.Path.{◌≡◌, ap, ◌∙◌}
-use native.Mathlib.Omega.{arith}
+use Prim.Native.Nat.{max}
 use Rattle.tables.specs.Followers.{gap_to}
-use Rattle.tables.specs.Adding.{added_at, most_added}
-use Rattle.tables.proofs.Followers.{Passing, passing_start, passing_done, passing_row, passing_gap, passing_inside, passing_next}
+use Rattle.tables.specs.Adding.{added_at}
+use Rattle.tables.proofs.Followers.{Passing}
 use Rattle.tables.proofs.interval.most_added.Given as goal
 
 abbrev pub invariant-loop-rest : goal.invariant-loop-rest

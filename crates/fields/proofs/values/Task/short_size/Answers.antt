@@ -1,7 +1,6 @@
 -- `short_size` meets its contract: a jitter of 0 takes no bytes.
 use Rattle.fields.proofs.Deciding.{judging}
 use Rattle.fields.specs.Values.{short_task_size}
-use borrow.Author.Rules.{rules}
 use Rattle.fields.proofs.values.Task.short_size.Goals as goal
 
 pub returns-then-is_zero : goal.returns-then-is_zero
