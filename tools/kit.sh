@@ -76,7 +76,7 @@ tell_progress() {
             say "$proved proved ($((SECONDS - began)) s), $((left - 1)) to come"
             began=$SECONDS
             ;;
-        'rt: chose '* | 'rt: running '* | 'rt: nothing has changed '* | 'rt: '*': begins with '*) ;;
+        'rt: chose '* | 'rt: running '* | 'rt: nothing has changed '* | 'rt: rt check '* | 'rt: '*': begins with '*) ;;
         'rt: '*) say "${line#rt: }" ;;
         esac
     done
