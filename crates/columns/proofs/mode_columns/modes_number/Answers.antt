@@ -9,7 +9,7 @@ use Rattle.written.proofs.EntriesFrom.{mode_among, modes_from, modes_next, modes
 use Rattle.written.proofs.EntriesKept.{entry_kept, mode_says}
 use Rattle.columns.proofs.Onward.{Onward, onward_start, onward_next, onward_stop, onward_end, onward_cut}
 use Rattle.columns.proofs.Told.{all_over, not_all_over}
-use Rattle.columns.proofs.modes.modes_number.Goals as goal
+use Rattle.columns.proofs.mode_columns.modes_number.Goals as goal
 
 pub loop-at-init : goal.loop-at-init
 loop-at-init c = (search rules, rw (← c.least.ensures) c.least-whole.ensures, onward_start _ _)

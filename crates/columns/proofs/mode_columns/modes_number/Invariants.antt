@@ -4,7 +4,7 @@ use lib.ListN.{length}
 use Rattle.written.specs.Values.{mode_entries}
 use Rattle.written.proofs.EntriesFrom.{modes_from}
 use Rattle.columns.proofs.Onward.{Onward}
-use Rattle.columns.proofs.modes.modes_number.Given as goal
+use Rattle.columns.proofs.mode_columns.modes_number.Given as goal
 
 abbrev pub invariant-loop-at : goal.invariant-loop-at
 invariant-loop-at l =
