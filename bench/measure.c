@@ -1,7 +1,7 @@
 /*
  * Measures whole calls of the proved library beside the same jobs in plain C, the tables in two ways: in turn on the same bytes or
  * values, the best of several runs each, answers, cells and written bytes compared. With the word `ratios` it prints no times, for
- * a machine that emulates.
+ * a machine whose times say nothing.
  */
 #include <stdio.h>
 #include <stdlib.h>

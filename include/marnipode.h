@@ -1,5 +1,5 @@
 /*
- * The calls of the desk for C and C++, over the archive libmarnipode.a (x86-64), which `rt staticlib marnipode` makes.
+ * The calls of the desk for C and C++, over the archive libmarnipode.a (x86-64), which tools/install makes of the crate marnipode_c.
  *
  * A sheet is a file of speeds, job lengths, deadlines and gaps; docs/FORMAT.md has it byte by byte. Times are in ticks of 10
  * microseconds, amounts are sums of job lengths, so they are in ticks too.

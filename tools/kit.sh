@@ -1,4 +1,4 @@
-# What ./desk, tools/install, tests/run, the examples, bench/run and the gate share: messages, how things are built one call at a time, and how code for x86-64 is compiled and started here.
+# What ./desk, tools/install, tests/run, the examples, bench/run and the gate share: messages, and how things are built one call at a time.
 # The script that reads this file has set `home`, the repository's folder, and `name`, its own name in messages.
 
 say() {
@@ -20,16 +20,19 @@ version() {
     sed -n 's/^#define MARNIPODE_VERSION "\(.*\)"$/\1/p' "$home/include/marnipode.h"
 }
 
-# Whether a file stands, and nothing that it could be made of is newer.
+# Whether a file stands, and nothing that it could be made of is newer. What rt makes, and the edits that must fail, are no part of that.
 is_built() {
-    [ -e "$1" ] && [ -z "$(find "$home/crates" "$home/crates.txt" -newer "$1" -print | head -n 1)" ]
+    [ -e "$1" ] && [ ! "$home/crates.txt" -nt "$1" ] &&
+        [ -z "$(find "$home/crates" -mindepth 2 \( -path '*/out' -o -path '*/must-fail' \) -prune -o -newer "$1" -print | head -n 1)" ]
 }
 
-# One build at a time in a checkout: all of rt's work stands in target/, and two of them would spoil it for each other. The lock's file
-# is not in target/, which rt may remove. What rt has started holds the lock too, so it is free once all of that has ended.
+# One build at a time in a checkout: rt works in the out/ of each crate, and what comes of that is put into target/. The lock's file is in
+# neither, as they may be removed. What rt has started holds the lock too, so it is free once all of that has ended.
 lock_target() {
-    local file=$home/target.lock
-    [ ! -e "$home/target" ] || [ -w "$home/target" ] || stop "nothing can be built here: $home/target may not be written"
+    local file=$home/target.lock place
+    for place in "$home/target" "$home/crates"; do
+        [ ! -e "$place" ] || [ -w "$place" ] || stop "nothing can be built here: $place may not be written"
+    done
     (exec 9>>"$file") 2>/dev/null || stop "nothing can be built here: $home may not be written; copy the clone to a folder of your own"
     exec 9>>"$file"
     if flock --nonblock 9; then return; fi
@@ -41,30 +44,39 @@ free_target() {
     exec 9>&-
 }
 
-# How many crates of the repository one is made of, itself among them.
-count_crates() {
-    awk -v crate="$1" '
+# The crates that one is made of, lowest first and itself last, which is the order in which rt builds them. With a second word only those
+# that it names itself.
+crates_of() {
+    awk -v crate="$1" -v named="${2-}" '
         function reach(name, words, n, i) {
             if (!(name in needs) || name in seen) return
-            seen[name]; count++
+            seen[name]
             n = split(needs[name], words, " ")
-            for (i = 1; i <= n; i++) reach(words[i])
+            for (i = 1; i <= n; i++) if (named == "" || name == crate) reach(words[i])
+            if (named == "" || name != crate) print name
         }
         { sub(/#.*/, "") }
         /:/ { name = $1; sub(/:.*/, "", name); sub(/^[^:]*:/, ""); needs[name] = $0 }
-        END { reach(crate); print count }' "$home/crates.txt"
+        END { reach(crate) }' "$home/crates.txt"
 }
 
 # Passes on what rt says for people as it comes, each proved crate with how many are to come after it.
 tell_progress() {
-    local left=$1 line
+    local crates line proved= began=$SECONDS left
+    mapfile -t crates < <(crates_of "$1")
     while IFS= read -r line; do
         case $line in
-        'rt: '*' proved (unchanged'*) left=$((left - 1)) ;;
-        'rt: '*' proved ('*)
-            left=$((left - 1))
-            say "${line#rt: }, $left to come"
+        'crate '*': modules '*)
+            proved=${line#crate }
+            proved=${proved%%:*}
             ;;
+        'logic=proved '*)
+            left=${#crates[@]}
+            while [ "$left" -gt 0 ] && [ "${crates[${#crates[@]} - left]}" != "$proved" ]; do left=$((left - 1)); done
+            say "$proved proved ($((SECONDS - began)) s), $((left - 1)) to come"
+            began=$SECONDS
+            ;;
+        'rt: chose '* | 'rt: running '* | 'rt: nothing has changed '* | 'rt: rt check '* | 'rt: '*': begins with '*) ;;
         'rt: '*) say "${line#rt: }" ;;
         esac
     done
@@ -98,47 +110,73 @@ in_group() {
     return "$ended"
 }
 
-# A command of rt on a crate, told as it goes.
+# A command of rt in a crate's folder, told as it goes. What it said stands in target/CRATE.log.
 run_rt() {
-    local crates
-    crates=$(count_crates "${!#}")
-    say "building: rt $* proves $crates crates, which takes some minutes where nothing is proved yet"
-    (cd "$home" && rt "$@") 2>&1 | tell_progress "$crates"
+    local crate=$1 count
+    shift
+    count=$(crates_of "$crate" | wc -l)
+    say "building: rt $* in crates/$crate proves what is not proved yet of $count crates, which takes some minutes where nothing is"
+    mkdir -p "$home/target"
+    # a program is run as soon as it is built, and what it prints then, on standard output, is not wanted
+    (cd "$home/crates/$crate" && { [ "$1" != run ] || exec >/dev/null; } && rt "$@" 2>&3) 3>&1 | tee "$home/target/$crate.log" | tell_progress "$crate"
 }
 
-# Makes a file of target/ by a command of rt unless it stands. An edit elsewhere leaves the file as it was, so its time is set here.
+# Whether rt made a program. Its status is then the program's own, so what it says before it starts one is looked at.
+make_program() {
+    run_rt "$1" run || true
+    grep -q "^rt: running out/$1;" "$home/target/$1.log"
+}
+
+# Makes the archive, for every x86-64 processor, and puts it where it has its name.
+make_archive() {
+    run_rt marnipode_c lib --cpu=x86-64 && take_archive
+}
+
+take_archive() {
+    install -m 644 "$home/crates/marnipode_c/out/libmarnipode_c.a" "$archive"
+}
+
+# Makes the archive over the libraries that `rt ci` has left, by the kit's own command: rt itself would prove them all once more.
+make_archive_over_proved() {
+    local kit crate words=()
+    kit=$(dirname "$(rt doc)")
+    for crate in $(crates_of marnipode_c named); do words+=(--extern "$crate=$home/crates/$crate/out/rlib/$crate.rlib"); done
+    for crate in $(crates_of marnipode_c); do words+=(-L "dependency=$home/crates/$crate/out/rlib"); done
+    mkdir -p "$home/target"
+    (cd "$home/crates/marnipode_c" && mkdir -p out && "$kit/bin/rattle" build --crate-name marnipode_c src/lib.rt --extern "std=$kit/rlibs/std.rlib" \
+        -L "dependency=$kit/rlibs" "${words[@]}" --antt-project "$kit/rattle/logic/antt-project.json" --logic-built "$kit/logic_built" \
+        --jobs 2 --crate-type staticlib --cpu=x86-64 --toolchain "$kit/toolchain" --backend llvm -o out/libmarnipode_c.a) \
+        >"$home/target/marnipode_c.log" 2>&1 && take_archive
+}
+
+# Makes a file by a command unless it stands. An edit elsewhere leaves the file as it was, so its time is set here.
 build() {
-    local file=$1 began=$SECONDS
-    shift
+    local file=$1 crate=$2 began=$SECONDS
+    shift 2
     if is_built "$file"; then return; fi
     lock_target
     if ! is_built "$file"; then
-        in_group run_rt "$@" || stop "rt $* failed; target/log has what it said"
+        in_group "$@" || stop "$crate was not built; target/$crate.log has what rt said"
         touch "$file"
         say "built in $((SECONDS - began)) s"
     fi
     free_target
 }
 
-# The kit's tools for this processor, and its emulator of x86-64 where the processor is another one.
-find_tools() {
-    tools=$(dirname "$(dirname "$(rt doc)")")/on/$(uname -m)/toolchain
-    emulator=$tools/bin/qemu-x86_64
-    [ -x "$emulator" ] || emulator=
+# A program, as rt or `rt ci` left it.
+program_of() {
+    printf '%s\n' "$home/crates/$1/out/$1"
 }
 
-# The commands by which C and C++ are compiled for x86-64, and the disassembler. On another processor they are the cross compiler's. What
-# it links of C is static, as the emulator wants it; it cannot link C++ so, and the emulator finds the libraries of that in its folder.
-name_compilers() {
-    compiler=(cc)
-    compiler_of_cpp=(c++)
-    objdump=objdump
-    if [ -n "$emulator" ]; then
-        compiler=(x86_64-linux-gnu-gcc -static)
-        compiler_of_cpp=(x86_64-linux-gnu-g++)
-        objdump=x86_64-linux-gnu-objdump
-        export QEMU_LD_PREFIX=/usr/x86_64-linux-gnu
-    fi
+build_program() {
+    build "$(program_of "$1")" "$1" make_program "$1"
+}
+
+# The archive that C is linked with. rt names it after its crate, and `rt ci` removes it there.
+archive=$home/target/libmarnipode.a
+
+build_archive() {
+    build "$archive" marnipode_c make_archive
 }
 
 # Debian's packages with a command.
@@ -146,10 +184,7 @@ packages_of() {
     case $1 in
     cc) echo gcc libc6-dev ;;
     c++) echo g++ ;;
-    x86_64-linux-gnu-gcc) echo gcc-x86-64-linux-gnu ;;
-    x86_64-linux-gnu-g++) echo g++-x86-64-linux-gnu ;;
     objdump) echo binutils ;;
-    x86_64-linux-gnu-objdump) echo binutils-x86-64-linux-gnu ;;
     *) echo "$1" ;;
     esac
 }
@@ -157,9 +192,4 @@ packages_of() {
 # Stops where a command is missing. Only the gate installs anything.
 need() {
     command -v "$1" >/dev/null || stop "there is no $1; Debian has it in: $(packages_of "$1")"
-}
-
-find_compiler() {
-    name_compilers
-    need "${compiler[0]}"
 }

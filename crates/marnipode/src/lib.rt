@@ -1,4 +1,4 @@
-// The calls for C, as include/marnipode.h declares them: numbers and slices in, a plain struct of numbers out.
+// The calls for C as calls for Rattle: numbers and slices in, a plain struct of numbers out. `marnipode_c` exports each of them.
 #![tactic(auto)]
 
 ghost use Rattle.std.specs.Prelude.{◌≡◌};
@@ -21,8 +21,7 @@ use writer_numbers::{
     ModeForC, RowForC, TaskForC, WriteForC, mode_numbers, row_numbers, task_numbers, write_numbers,
 };
 
-#[unsafe(no_mangle)]
-pub extern "C" fn marnipode_judge(bytes: &[u8]) -> JudgeForC
+pub fn marnipode_judge(bytes: &[u8]) -> JudgeForC
     ensures { result ≡ flat_judged (judged bytes.now) }
 {
     let mut places = [0usize; Sheet::ROWS];
@@ -30,23 +29,20 @@ pub extern "C" fn marnipode_judge(bytes: &[u8]) -> JudgeForC
 }
 
 // A returned part of the bytes cannot be handed to C, so the label is its place and its size.
-#[unsafe(no_mangle)]
-pub extern "C" fn marnipode_label(bytes: &[u8]) -> LabelForC
+pub fn marnipode_label(bytes: &[u8]) -> LabelForC
     ensures { result ≡ flat_label (judged bytes.now) }
 {
     let mut places = [0usize; Sheet::ROWS];
     label_numbers(sheet::outline_of(bytes, &mut places))
 }
 
-#[unsafe(no_mangle)]
-pub extern "C" fn marnipode_field_at(bytes: &[u8], at: usize) -> FieldForC
+pub fn marnipode_field_at(bytes: &[u8], at: usize) -> FieldForC
     ensures { result ≡ flat_step (field_at bytes.now at) }
 {
     field_numbers(fields::reader::field_at(bytes, at))
 }
 
-#[unsafe(no_mangle)]
-pub extern "C" fn marnipode_demand(
+pub fn marnipode_demand(
     bytes: &[u8],
     interval: u64,
     cells: &mut [u32],
@@ -57,44 +53,31 @@ pub extern "C" fn marnipode_demand(
     demand_numbers(desk::demand(bytes, interval, cells, witness))
 }
 
-#[unsafe(no_mangle)]
-pub extern "C" fn marnipode_margin(bytes: &[u8], interval: u64, cells: &mut [u32]) -> MarginForC
+pub fn marnipode_margin(bytes: &[u8], interval: u64, cells: &mut [u32]) -> MarginForC
     ensures { MarginExport bytes.now interval cells.old result cells.new }
 {
     margin_numbers(desk::margin(bytes, interval, cells))
 }
 
-#[unsafe(no_mangle)]
-pub extern "C" fn marnipode_shortest(bytes: &[u8], amount: u64, cells: &mut [u32]) -> ShortestForC
+pub fn marnipode_shortest(bytes: &[u8], amount: u64, cells: &mut [u32]) -> ShortestForC
     ensures { ShortestExport bytes.now amount cells.old result cells.new }
 {
     shortest_numbers(desk::shortest(bytes, amount, cells))
 }
 
-#[unsafe(no_mangle)]
-pub extern "C" fn marnipode_verdict_by_interval(
-    bytes: &[u8],
-    horizon: u64,
-    cells: &mut [u32],
-) -> VerdictForC
+pub fn marnipode_verdict_by_interval(bytes: &[u8], horizon: u64, cells: &mut [u32]) -> VerdictForC
     ensures { VerdictByIntervalExport bytes.now horizon cells.old result cells.new }
 {
     verdict_numbers(desk::verdict_by_interval(bytes, horizon, cells))
 }
 
-#[unsafe(no_mangle)]
-pub extern "C" fn marnipode_verdict_by_amount(
-    bytes: &[u8],
-    horizon: u64,
-    cells: &mut [u32],
-) -> VerdictForC
+pub fn marnipode_verdict_by_amount(bytes: &[u8], horizon: u64, cells: &mut [u32]) -> VerdictForC
     ensures { VerdictByAmountExport bytes.now horizon cells.old result cells.new }
 {
     verdict_numbers(desk::verdict_by_amount(bytes, horizon, cells))
 }
 
-#[unsafe(no_mangle)]
-pub extern "C" fn marnipode_explain(
+pub fn marnipode_explain(
     bytes: &[u8],
     horizon: u64,
     cells: &mut [u32],
@@ -106,8 +89,7 @@ pub extern "C" fn marnipode_explain(
 }
 
 // The columns come one by one; the header has a struct of them, and a function that hands them on.
-#[unsafe(no_mangle)]
-pub extern "C" fn marnipode_write_columns(
+pub fn marnipode_write_columns(
     label: &[u8],
     boundaries: &[u16],
     lengths: &[u16],
@@ -141,30 +123,26 @@ pub extern "C" fn marnipode_write_columns(
     ))
 }
 
-#[unsafe(no_mangle)]
-pub extern "C" fn marnipode_mode(bytes: &[u8], number: usize) -> ModeForC
+pub fn marnipode_mode(bytes: &[u8], number: usize) -> ModeForC
     ensures { result ≡ flat_mode (mode_numbered bytes.now number) }
 {
     mode_numbers(contents::mode_numbered(bytes, number))
 }
 
-#[unsafe(no_mangle)]
-pub extern "C" fn marnipode_row(bytes: &[u8], number: usize) -> RowForC
+pub fn marnipode_row(bytes: &[u8], number: usize) -> RowForC
     ensures { result ≡ flat_row (row_numbered bytes.now number) }
 {
     row_numbers(contents::row_numbered(bytes, number))
 }
 
-#[unsafe(no_mangle)]
-pub extern "C" fn marnipode_gap(bytes: &[u8], from: usize, to: usize) -> u16
+pub fn marnipode_gap(bytes: &[u8], from: usize, to: usize) -> u16
     ensures { result ≡ (gap_numbered bytes.now from to).0 }
 {
     let gap = contents::gap_numbered(bytes, from, to);
     gap.0
 }
 
-#[unsafe(no_mangle)]
-pub extern "C" fn marnipode_task(bytes: &[u8], number: usize) -> TaskForC
+pub fn marnipode_task(bytes: &[u8], number: usize) -> TaskForC
     ensures { result ≡ flat_task (task_numbered bytes.now number) }
 {
     task_numbers(contents::task_numbered(bytes, number))
