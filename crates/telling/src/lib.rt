@@ -1,4 +1,6 @@
 // What is printed for the questions about demand, in cells and an area that are lent: at an interval, for an amount, and up to a horizon.
+#![tactic(auto)]
+
 mod at;
 mod curve;
 mod shortest;
