@@ -1,4 +1,6 @@
 // How every call begins: the sheet is judged, then the number asked for and the room are.
+#![tactic(auto)]
+
 ghost use Rattle.std.specs.Prelude.{◌≡◌, ◌+◌, ◌≤◌, ltb, eqb};
 ghost use Rattle.meaning.specs.Demand.{longest_time};
 ghost use Rattle.fields.specs.Deciding.{pick};

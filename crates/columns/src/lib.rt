@@ -1,4 +1,6 @@
 // The reader's rules on values that a caller lends as columns, tried before a byte of them is written.
+#![tactic(auto)]
+
 mod modes;
 mod rows;
 mod tasks;

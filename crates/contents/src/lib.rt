@@ -1,4 +1,6 @@
 // A sheet's values by number, for who shows or edits them; 0 past the last one, and for a refused sheet.
+#![tactic(auto)]
+
 ghost use Rattle.std.specs.Prelude.{◌≡◌, ◌≤◌, length};
 ghost use Rattle.sets.specs.Sets.{member};
 ghost use Rattle.sheet.specs.Meaning.{gap_of};

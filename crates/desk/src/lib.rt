@@ -1,4 +1,6 @@
 // The public calls: each takes the sheet's bytes, reads them itself, works in lent memory and answers for any bytes and any numbers.
+#![tactic(auto)]
+
 mod answering;
 
 ghost use Rattle.desk.specs.Calls.{DemandCall, MarginCall, ShortestCall, VerdictCall, VerdictByIntervalCall, VerdictByAmountCall};

@@ -1,4 +1,6 @@
 // Why a verdict is what it is: the cause of the first overrun with its numbers, or the smallest margin.
+#![tactic(auto)]
+
 mod answering;
 mod demands;
 mod looking;

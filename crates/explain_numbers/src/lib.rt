@@ -1,4 +1,6 @@
 // The struct that C is given for an explanation, and an answer of `explain` as one.
+#![tactic(auto)]
+
 ghost use Rattle.std.specs.Prelude.{◌≡◌};
 ghost use Rattle.explain_numbers.specs.Flat.{cause_number, demands_alone, flat_explained};
 

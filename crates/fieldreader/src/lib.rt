@@ -1,4 +1,6 @@
 // The field reader as a value: the bytes that it was made of, and how far it has come in them.
+#![tactic(auto)]
+
 ghost use Rattle.std.specs.Prelude.{◌≡◌};
 ghost use Rattle.fields.specs.Reading.{field_at};
 ghost use Rattle.fieldreader.specs.Moving.{step_at, stepped};

@@ -1,4 +1,6 @@
 // Either table filled, line after line: in blocks of lines where no row reaches back into its own block, else one line at a time.
+#![tactic(auto)]
+
 ghost use Rattle.std.specs.Prelude.{◌≡◌, ℕ, ◌+◌, ◌*◌, ◌≤◌, ◌<◌, length, get_or};
 ghost use Rattle.meaning.specs.Cells.{Filled};
 ghost use Rattle.meaning.specs.Demand.{longest_time};

@@ -1,4 +1,6 @@
 // The calls for C, as include/marnipode.h declares them: numbers and slices in, a plain struct of numbers out.
+#![tactic(auto)]
+
 ghost use Rattle.std.specs.Prelude.{◌≡◌};
 ghost use Rattle.sheet.specs.Judging.{judged};
 ghost use Rattle.fields.specs.Reading.{field_at};

@@ -1,4 +1,6 @@
 // The job length of a speed.
+#![tactic(auto)]
+
 ghost use Rattle.std.specs.Prelude.{◌≡◌, take, drop};
 ghost use Rattle.modes.specs.Modes.{first_length, length_in, job_length};
 

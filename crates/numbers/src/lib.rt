@@ -1,4 +1,6 @@
 // The structs that C is given, and each answer of the library as one of them.
+#![tactic(auto)]
+
 ghost use Rattle.std.specs.Prelude.{◌≡◌};
 ghost use Rattle.numbers.specs.Flat.{kind_number, flat_outline, flat_heading, flat_step, flat_demand, flat_margin, flat_shortest, flat_verdict};
 

@@ -1,3 +1,5 @@
 // Fixed demand, and the first interval up to a horizon that is overrun.
+#![tactic(auto)]
+
 pub mod sweep;
 pub mod tasks;

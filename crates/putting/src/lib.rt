@@ -1,4 +1,6 @@
 // A sheet put at the front of lent output: each field is written into the rest of it, from the current place on.
+#![tactic(auto)]
+
 mod kinds;
 mod pieces;
 

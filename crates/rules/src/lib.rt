@@ -1,4 +1,6 @@
 // The rules 3 and 5 to 10 as functions on the tally and on values: a test for each, and for each list of rules the number of the first that is broken.
+#![tactic(auto)]
+
 pub mod counting;
 pub mod text;
 

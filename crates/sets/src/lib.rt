@@ -1,4 +1,6 @@
 // Sets of rows as numbers, bit j for row j: how many rows one has, how many of them stand below a row, and which comes next.
+#![tactic(auto)]
+
 ghost use Rattle.std.specs.Prelude.{◌≡◌, ◌-◌, ◌≤◌};
 ghost use Rattle.sets.specs.Sets.{width, below, next_in};
 

@@ -1,4 +1,6 @@
 // The sheet judged: any bytes are accepted with their values, or refused by the first broken rule.
+#![tactic(auto)]
+
 mod judging;
 pub mod rows;
 

@@ -1,4 +1,6 @@
 // The steps of a curve: up to which horizon they are read, and at which intervals the engine's demand, or fixed demand, rises.
+#![tactic(auto)]
+
 ghost use Rattle.std.specs.Prelude.{◌+◌, ◌*◌, ◌≤◌, min, ◌≡◌, length};
 ghost use Rattle.meaning.specs.Demand.{longest_time};
 ghost use Rattle.meaning.specs.Fixed.{fixed_of, fixed_sum};

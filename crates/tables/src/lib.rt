@@ -1,4 +1,6 @@
 // The tables of cells, by interval and by amount: one cell of them, and what stands in one line.
+#![tactic(auto)]
+
 pub mod amount;
 pub mod interval;
 

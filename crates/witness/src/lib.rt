@@ -1,4 +1,6 @@
 // The witness at t, read off the table by interval: the first sequence in row order that attains the demand, found row by row.
+#![tactic(auto)]
+
 ghost use Rattle.std.specs.Prelude.{◌≡◌, ◌+◌, ◌-◌, ◌*◌, ◌≤◌, ◌<◌, length};
 ghost use Rattle.meaning.specs.Cells.{ByInterval};
 ghost use Rattle.meaning.specs.Computed.{cell_at, seek, witness_of};

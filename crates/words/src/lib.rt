@@ -1,4 +1,6 @@
 // What a program's words say: which question is asked, and which number a word is.
+#![tactic(auto)]
+
 ghost use Rattle.std.specs.Prelude.{◌≡◌, true, ◌↔◌};
 ghost use Rattle.words.specs.Numbers.{Says};
 ghost use Rattle.words.specs.Questions.{Names};

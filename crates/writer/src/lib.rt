@@ -1,4 +1,6 @@
 // A sheet written from its values, which the caller lends as columns.
+#![tactic(auto)]
+
 ghost use Rattle.std.specs.Prelude.{◌≡◌, ◌*◌, ◌≤◌, length};
 ghost use Rattle.fields.specs.Limits.{mode_limit, row_limit, task_limit, label_limit};
 ghost use Rattle.written.specs.Judging.{band_count, jitter_count, sheet_size};

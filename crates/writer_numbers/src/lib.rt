@@ -1,4 +1,6 @@
 // The structs that C is given for what was written and for a sheet's values by number.
+#![tactic(auto)]
+
 ghost use Rattle.std.specs.Prelude.{◌≡◌};
 ghost use Rattle.writer_numbers.specs.Flat.{flat_written, flat_mode, flat_row, flat_task};
 

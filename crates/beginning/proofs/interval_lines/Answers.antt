@@ -1,0 +1,13 @@
+-- `interval_lines` meets its contract: an interval is out of range exactly when it is beyond the longest time.
+use native.Mathlib.Omega.{arith}
+use mathlib.Core.Path.{refl}
+use borrow.Author.Rules.{rules}
+use borrow.Author.Tests.{lt-ltb, le-ltb}
+use Rattle.fields.proofs.Deciding.{yes, no}
+use Rattle.beginning.proofs.interval_lines.Goals as goal
+
+pub returns-then-interval : goal.returns-then-interval
+returns-then-interval c = record { value = yes _ _ _ _ (lt-ltb _ _ c.if-interval.true) refl; upper_bound = omega arith }
+
+pub returns : goal.returns
+returns c = record { value = no _ _ _ _ (le-ltb _ _ c.if-interval.false) refl; upper_bound = omega (arith, c.if-interval.false) }

@@ -1,0 +1,15 @@
+use Prim.Native.Nat.{◌+◌, ◌-◌, ◌*◌, ◌<◌, max}
+use borrow.Author.Rules.{rules}
+use lib.ListN.{length, get_or}
+use mathlib.Core.Path.{◌≡◌}
+use native.Mathlib.Omega.{arith}
+use Rattle.tables.proofs.Storing.{Stored, stored_none, stored_more}
+use Rattle.blocks.specs.Blocks.{block_size}
+use Rattle.blocks.proofs.Lanes.{lane_inside, all_stored}
+use Rattle.blocks.proofs.interval.raised_by.Given as goal
+
+abbrev pub invariant-loop-i : goal.invariant-loop-i
+invariant-loop-i l = (l.from ≡ l.first + l.i * l.n) × Stored (λ m. max (get_or l.most m 0) (get_or l.cells (l.first + m * l.n) 0)) block_size l.more l.i
+
+abbrev pub decreases-loop-i : goal.decreases-loop-i
+decreases-loop-i l = block_size - l.i

@@ -1,0 +1,17 @@
+use Prim.Native.Nat.{◌-◌}
+use Rattle.fields.proofs.Deciding.{told, any_hit, any_miss, any_none}
+use Rattle.fields.specs.Deciding.{any_from}
+use Rattle.rules.specs.Rules.{unknown_in}
+use Rattle.written.specs.Judging.{unknown_among}
+use borrow.Author.Rules.{rules}
+use lib.ListN.{get_or}
+use mathlib.Core.Path.{◌≡◌, ◌∙◌, refl, sym}
+use native.Mathlib.Nat.{sub-zero}
+use native.Mathlib.Omega.{arith}
+use Rattle.columns.proofs.rows.unknown_among.Given as goal
+
+abbrev pub invariant-loop-number : goal.invariant-loop-number
+invariant-loop-number l = unknown_among l.sets l.count ≡ any_from (λ k. unknown_in (get_or l.sets k 0) l.count) l.number (l.count - l.number)
+
+abbrev pub decreases-loop-number : goal.decreases-loop-number
+decreases-loop-number l = l.count - l.number

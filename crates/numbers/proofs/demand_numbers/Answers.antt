@@ -1,0 +1,11 @@
+-- `demand_numbers` meets its contract, case by case.
+use borrow.Author.Rules.{rules}
+use mathlib.Core.Path.{ap, sym}
+use Rattle.numbers.specs.Flat.{flat_demand}
+use Rattle.numbers.proofs.demand_numbers.Goals as goal
+
+pub returns-in-Found : goal.returns-in-Found
+returns-in-Found c = ap flat_demand (sym c.in-Found.is)
+
+pub returns-in-Refused : goal.returns-in-Refused
+returns-in-Refused c = ap flat_demand (sym c.in-Refused.is)

@@ -1,0 +1,8 @@
+-- `full_of` meets its contract: it reads the tag's line.
+use Rattle.rules.specs.Rules.{full}
+use borrow.Author.Rules.{rules}
+use Rattle.rules.proofs.full_of.Goals as goal
+
+pub returns : goal.returns
+unfolding full
+returns c = rw c.before.Line-of.ensures

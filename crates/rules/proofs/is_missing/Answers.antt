@@ -1,0 +1,13 @@
+-- `is_missing` meets its contract: it reads the tag's line.
+use Rattle.fields.proofs.Deciding.{judging}
+use Rattle.rules.specs.Rules.{missing}
+use borrow.Author.Rules.{rules}
+use Rattle.rules.proofs.is_missing.Goals as goal
+
+pub returns-then-last-tag : goal.returns-then-last-tag
+unfolding missing
+returns-then-last-tag c = rw (← c.before.Line-of.ensures) (search judging)
+
+pub returns : goal.returns
+unfolding missing
+returns c = rw (← c.before.Line-of.ensures) (search judging)

@@ -1,0 +1,36 @@
+-- `head_number` meets its contract: each arm has the rules of its kind.
+use Rattle.fields.specs.Deciding.{pick, first_broken}
+use Rattle.sheet.specs.Judging.{head_rules}
+use borrow.Author.Rules.{rules}
+use mathlib.Core.Path.{refl}
+use Rattle.sheet.proofs.judging.head_number.Goals as goal
+
+pub returns-in-RefusedTag : goal.returns-in-RefusedTag
+unfolding head_rules first_broken pick
+returns-in-RefusedTag c = rw c.in-RefusedTag.is refl
+
+pub returns-in-LabelField : goal.returns-in-LabelField
+unfolding head_rules
+returns-in-LabelField c = rw c.in-LabelField.is c.common_number.ensures
+
+pub returns-in-ModeField : goal.returns-in-ModeField
+unfolding head_rules
+returns-in-ModeField c = rw c.in-ModeField.is c.common_number-in-ModeField.ensures
+
+pub returns-in-RowField : goal.returns-in-RowField
+unfolding head_rules
+returns-in-RowField c =
+    let row = c.before.before.before in
+    rw (row.in-RowField.is, ← c.long_at.ensures, ← c.unlike_set-unlike.ensures) c.common_number-in-RowField.ensures
+
+pub returns-in-TaskField : goal.returns-in-TaskField
+unfolding head_rules
+returns-in-TaskField c = rw c.in-TaskField.is c.common_number-in-TaskField.ensures
+
+pub returns-in-EndField : goal.returns-in-EndField
+unfolding head_rules
+returns-in-EndField c = rw c.in-EndField.is c.common_number-in-EndField.ensures
+
+pub returns-in-SkippedField : goal.returns-in-SkippedField
+unfolding head_rules first_broken
+returns-in-SkippedField c = rw c.in-SkippedField.is refl
