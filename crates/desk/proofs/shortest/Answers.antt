@@ -14,7 +14,9 @@ shortest_in-requires c =
     let a = c.args in
     let begun = c.begin_amount-begun in
     let going : GoesOn a.bytes.now (amount_rules a.bytes.now a.amount (length a.cells.now)) begun.new.places begun.result =
-    goes_on _ _ _ _ (λ i. omega (arith, c.type_inv.bytes i)) c.begin_amount-begun.ensures c.in-Accepted.is in amount_handed _ _ _ _ _ (going)
+    goes_on _ _ _ _ (λ i. omega (arith, c.type_inv.bytes i)) c.begin_amount-begun.ensures c.in-Accepted.is in
+    let handed = amount_handed _ _ _ _ _ (going) in
+    record { handed = handed.0; le_amount = handed.1.0; amount_bound = handed.1.1.0; amount_in_bounds = handed.1.1.1 }
 
 pub returns-in-Refused : goal.returns-in-Refused
 unfolding ShortestCall

@@ -14,7 +14,9 @@ explain_in-requires c =
     let a = c.args in
     let begun = c.begin_interval-begun in
     let going : GoesOn a.bytes.now (interval_rules a.bytes.now a.horizon (length a.cells.now)) begun.new.places begun.result =
-    goes_on _ _ _ _ (λ i. omega (arith, c.type_inv.bytes i)) c.begin_interval-begun.ensures c.in-Accepted.is in interval_handed _ _ _ _ _ (going)
+    goes_on _ _ _ _ (λ i. omega (arith, c.type_inv.bytes i)) c.begin_interval-begun.ensures c.in-Accepted.is in
+    let handed = interval_handed _ _ _ _ _ (going) in
+    record { handed = handed.0; horizon_le_longest_time = handed.1.0; horizon_in_bounds = handed.1.1 }
 
 pub returns-in-Refused : goal.returns-in-Refused
 unfolding ExplainCall

@@ -37,13 +37,11 @@ returns-then-reach-lt-BLOCK c = record { upper_bound = omega arith; may_block = 
 
 pub loop-k-preserved : goal.loop-k-preserved
 loop-k-preserved c =
-    let i = c.before.before.before.before.before in
-    let l = i.loop-k in
-    let s = i.before.before.before in
-    let a = s.args in
-    let is = reach_is a.bytes.now a.places.now a.lengths.now a.n s.requires l.k i.loop-k-test.true _ c.row_at-row.ensures a.table in
+    let l = c.loop-k in
+    let a = c.args in
+    let is = reach_is a.bytes.now a.places.now a.lengths.now a.n c.requires l.k c.loop-k-test.true _ c.row_at-row.ensures a.table in
     let far : block_size ≤ row_reach a.table a.bytes.now l.k = omega (arith, is, c.reach.ensures, c.if-reach-lt-BLOCK.false) in
-    (omega (arith, i.loop-k-test.true), λ j h. ⊎_elim (λ same. rw same far) (l.invariant.1 j) (eq-or-lt_of_le {n = j} {m = l.k} (omega arith)))
+    (omega (arith, c.loop-k-test.true), λ j h. ⊎_elim (λ same. rw same far) (l.invariant.1 j) (eq-or-lt_of_le {n = j} {m = l.k} (omega arith)))
 
 pub returns : goal.returns
 returns c = record { upper_bound = omega arith; may_block = λ some k h. c.loop-k.invariant.1 k (omega (arith, c.loop-k-test.false)) }

@@ -11,20 +11,16 @@ use Rattle.filling.proofs.fill.Goals as goal
 pub returns : goal.returns
 returns c =
     let fewer : c.fill_blocks-first.result ≤ c.args.lines = omega (arith, c.blocked_lines-blocked.ensures.upper_bound, c.fill_blocks-first.ensures.upper_bound) in
-    let b = c.before.before.before.before.before.before in
-    let n = b.args.n in
-    filled_join _ _ _ _ _ _ _ (mul-le-mul_left n (fewer)) b.fill_blocks-first.ensures.filled c.fill_lines.ensures
+    let n = c.args.n in
+    filled_join _ _ _ _ _ _ _ (mul-le-mul_left n (fewer)) c.fill_blocks-first.ensures.filled c.fill_lines.ensures
 
 pub fill_blocks-first-requires : goal.fill_blocks-first-requires
 fill_blocks-first-requires c =
-    let s = c.before.before.before.before in
     let kept = c.blocked_lines-blocked.ensures in
-    record { laid = s.requires.laid; lines_bound = omega (arith, kept.upper_bound, s.requires.lines_bound); lines_in_bounds = room_for_fewer _ _ _ _ kept.upper_bound s.requires.lines_in_bounds; may_block = kept.may_block }
+    record { laid = c.requires.laid; lines_bound = omega (arith, kept.upper_bound, c.requires.lines_bound); lines_in_bounds = room_for_fewer _ _ _ _ kept.upper_bound c.requires.lines_in_bounds; may_block = kept.may_block }
 
 pub fill_lines-requires : goal.fill_lines-requires
 fill_lines-requires c =
     let fewer : c.fill_blocks-first.result ≤ c.args.lines = omega (arith, c.blocked_lines-blocked.ensures.upper_bound, c.fill_blocks-first.ensures.upper_bound) in
-    let b = c.before.before.before in
-    let s = b.before.before.before.before.before in
-    let filled = b.fill_blocks-first.ensures.filled in
-    let room = room_for_fewer s.args.n s.args.lines b.fill_blocks-first.result _ (fewer) s.requires.lines_in_bounds in record { laid = s.requires.laid; first_le_lines = omega (arith, fewer, b.blocked_lines-blocked.ensures.upper_bound); lines_bound = s.requires.lines_bound; lines_in_bounds = omega (arith, s.requires.lines_in_bounds, filled.same_length); has_lines = filled_has _ _ _ _ _ _ (omega arith) (omega (arith, room)) filled }
+    let filled = c.fill_blocks-first.ensures.filled in
+    let room = room_for_fewer c.args.n c.args.lines c.fill_blocks-first.result _ (fewer) c.requires.lines_in_bounds in record { laid = c.requires.laid; first_le_lines = omega (arith, fewer, c.blocked_lines-blocked.ensures.upper_bound); lines_bound = c.requires.lines_bound; lines_in_bounds = omega (arith, c.requires.lines_in_bounds, filled.same_length); has_lines = filled_has _ _ _ _ _ _ (omega arith) (omega (arith, room)) filled }

@@ -12,21 +12,17 @@ loop-k-init c = blocked_start _ _ _ _ c.requires.has_lines
 
 pub column_of-column-requires : goal.column_of-column-requires
 column_of-column-requires c =
-    let s = c.before.before.before.before.before in
     let l = c.loop-k in
     let h = c.loop-k-test.true in
-    record { laid = s.requires.laid; k_lt_n = h; block_size_bound = s.requires.block_size_bound; block_size_in_bounds = omega (arith, s.requires.block_size_in_bounds, l.invariant.same_length); block_size_bound_2 = s.requires.by_index l.k h; has_lines = l.invariant.before }
+    record { laid = c.requires.laid; k_lt_n = h; block_size_bound = c.requires.block_size_bound; block_size_in_bounds = omega (arith, c.requires.block_size_in_bounds, l.invariant.same_length); block_size_bound_2 = c.requires.by_index l.k h; has_lines = l.invariant.before }
 
 pub put_column-requires : goal.put_column-requires
 put_column-requires c =
-    let i = c.before.before.before in
-    let s = i.before.before.before.before in
-    record { k_lt_n = i.loop-k-test.true; block_size_in_bounds = omega (arith, s.requires.block_size_in_bounds, i.loop-k.invariant.same_length) }
+    record { k_lt_n = c.loop-k-test.true; block_size_in_bounds = omega (arith, c.requires.block_size_in_bounds, c.loop-k.invariant.same_length) }
 
 pub loop-k-preserved : goal.loop-k-preserved
 loop-k-preserved c =
-    let i = c.before.before.before.before.before.before in
-    blocked_more _ _ _ _ _ _ i.loop-k.invariant _ _ i.loop-k-test.true c.column_of-column.ensures c.put_column.ensures
+    blocked_more _ _ _ _ _ _ c.loop-k.invariant _ _ c.loop-k-test.true c.column_of-column.ensures c.put_column.ensures
 
 pub shape_of-cells : goal.shape_of-cells
 shape_of-cells c = c.loop-k.invariant.same_length

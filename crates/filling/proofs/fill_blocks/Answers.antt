@@ -17,11 +17,10 @@ overflow_add-line c = omega (arith, c.loop-line.invariant.0, c.requires.lines_bo
 
 pub fill_block-requires : goal.fill_block-requires
 fill_block-requires c =
-    let s = c.before.before.before.before.before in
-    let a = s.args in
+    let a = c.args in
     let l = c.loop-line in
     let taken = c.loop-line-test.true in
-    let room = s.requires.lines_in_bounds in record { laid = s.requires.laid; block_size_bound = omega (arith, taken, s.requires.lines_bound); block_size_in_bounds = room_for_fewer a.n a.lines (l.line + block_size) _ (omega (arith, taken)) (omega (arith, room, l.invariant.1.same_length)); by_index = s.requires.may_block (omega (arith, taken)); has_lines = filled_has _ _ l.line _ _ _ (omega arith) (room_for_fewer a.n a.lines l.line _ l.invariant.0 room) l.invariant.1 }
+    let room = c.requires.lines_in_bounds in record { laid = c.requires.laid; block_size_bound = omega (arith, taken, c.requires.lines_bound); block_size_in_bounds = room_for_fewer a.n a.lines (l.line + block_size) _ (omega (arith, taken)) (omega (arith, room, l.invariant.1.same_length)); by_index = c.requires.may_block (omega (arith, taken)); has_lines = filled_has _ _ l.line _ _ _ (omega arith) (room_for_fewer a.n a.lines l.line _ l.invariant.0 room) l.invariant.1 }
 
 pub overflow_add-line-in-loop-line : goal.overflow_add-line-in-loop-line
 overflow_add-line-in-loop-line c = omega (arith, c.loop-line-test.true, c.requires.lines_bound)
@@ -31,11 +30,10 @@ loop-line-smaller c = omega (arith, c.loop-line-test.true)
 
 pub loop-line-preserved : goal.loop-line-preserved
 loop-line-preserved c =
-    let i = c.before.before.before.before in
-    (omega (arith, i.loop-line-test.true), filled_join _ _ _ _ _ _ _ (omega arith) i.loop-line.invariant.1 c.fill_block.ensures)
+    (omega (arith, c.loop-line-test.true), filled_join _ _ _ _ _ _ _ (omega arith) c.loop-line.invariant.1 c.fill_block.ensures)
 
 pub shape_of-cells : goal.shape_of-cells
 shape_of-cells c = c.loop-line.invariant.1.same_length
 
 pub returns : goal.returns
-returns c = c.loop-line.invariant
+returns c = record { upper_bound = c.loop-line.invariant.0; filled = c.loop-line.invariant.1 }

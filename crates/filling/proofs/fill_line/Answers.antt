@@ -17,54 +17,47 @@ overflow_mul-base c = omega (arith, c.requires.line_in_bounds)
 
 pub loop-k-init : goal.loop-k-init
 loop-k-init c =
-    let s = c.before.before in
-    (omega arith, lines_filled _ _ _ s.args.line _ (omega arith) s.requires.has_lines)
+    (omega arith, lines_filled _ _ _ c.args.line _ (omega arith) c.requires.has_lines)
 
 pub cell_of-value-requires : goal.cell_of-value-requires
 cell_of-value-requires c =
-    let s = c.before.before.before.before.before in
-    let l = c.loop-k in record { laid = s.requires.laid; k_lt_n = c.loop-k-test.true; line_le_longest_time = s.requires.line_le_longest_time; line_in_bounds = omega (arith, s.requires.line_in_bounds, l.invariant.1.same_length); has_lines = filled_has _ _ s.args.line _ _ _ (omega arith) s.requires.has_lines.room l.invariant.1 }
+    let l = c.loop-k in record { laid = c.requires.laid; k_lt_n = c.loop-k-test.true; line_le_longest_time = c.requires.line_le_longest_time; line_in_bounds = omega (arith, c.requires.line_in_bounds, l.invariant.1.same_length); has_lines = filled_has _ _ c.args.line _ _ _ (omega arith) c.requires.has_lines.room l.invariant.1 }
 
 pub overflow_add-cells : goal.overflow_add-cells
 overflow_add-cells c =
     let a = c.args in
     let within : a.line * a.n + c.loop-k.k < length c.loop-k.cells =
-    let s = c.before.before.before.before in
-    let a = s.args in
+    let a = c.args in
     let l = c.loop-k in
-    in_lines a.n a.line (a.line + 1) l.k _ (omega arith) c.loop-k-test.true (omega (arith, s.requires.line_in_bounds, l.invariant.1.same_length)) in omega (arith, within)
+    in_lines a.n a.line (a.line + 1) l.k _ (omega arith) c.loop-k-test.true (omega (arith, c.requires.line_in_bounds, l.invariant.1.same_length)) in omega (arith, within)
 
 pub offset_bounds-cells-base : goal.offset_bounds-cells-base
 offset_bounds-cells-base c =
     let a = c.args in
     let within : a.line * a.n + c.loop-k.k < length c.loop-k.cells =
-    let s = c.before.before.before.before in
-    let a = s.args in
+    let a = c.args in
     let l = c.loop-k in
-    in_lines a.n a.line (a.line + 1) l.k _ (omega arith) c.loop-k-test.true (omega (arith, s.requires.line_in_bounds, l.invariant.1.same_length)) in omega (arith, within)
+    in_lines a.n a.line (a.line + 1) l.k _ (omega arith) c.loop-k-test.true (omega (arith, c.requires.line_in_bounds, l.invariant.1.same_length)) in omega (arith, within)
 
 pub bounds-cells-base : goal.bounds-cells-base
 bounds-cells-base c =
     let a = c.args in
     let within : a.line * a.n + c.loop-k.k < length c.loop-k.cells =
-    let s = c.before.before.before.before in
-    let a = s.args in
+    let a = c.args in
     let l = c.loop-k in
-    in_lines a.n a.line (a.line + 1) l.k _ (omega arith) c.loop-k-test.true (omega (arith, s.requires.line_in_bounds, l.invariant.1.same_length)) in within
+    in_lines a.n a.line (a.line + 1) l.k _ (omega arith) c.loop-k-test.true (omega (arith, c.requires.line_in_bounds, l.invariant.1.same_length)) in within
 
 pub loop-k-preserved : goal.loop-k-preserved
 loop-k-preserved c =
     let a = c.args in
     let within : a.line * a.n + c.loop-k.k < length c.loop-k.cells =
-    let s = c.before.before.before.before in
-    let a = s.args in
+    let a = c.args in
     let l = c.loop-k in
-    in_lines a.n a.line (a.line + 1) l.k _ (omega arith) c.loop-k-test.true (omega (arith, s.requires.line_in_bounds, l.invariant.1.same_length)) in
-    let i = c.before.before in
-    let l = i.loop-k in
-    let a = i.args in
+    in_lines a.n a.line (a.line + 1) l.k _ (omega arith) c.loop-k-test.true (omega (arith, c.requires.line_in_bounds, l.invariant.1.same_length)) in
+    let l = c.loop-k in
+    let a = c.args in
     let next : a.line * a.n + l.k + 1 ≡ a.line * a.n + (l.k + 1) = omega arith in
-    (omega (arith, i.loop-k-test.true), rw next at (filled_one _ _ _ _ _ _ _ i.loop-k-test.true (within) c.cell_of-value.ensures l.invariant.1))
+    (omega (arith, c.loop-k-test.true), rw next at (filled_one _ _ _ _ _ _ _ c.loop-k-test.true (within) c.cell_of-value.ensures l.invariant.1))
 
 pub shape_of-cells : goal.shape_of-cells
 shape_of-cells c = c.loop-k.invariant.1.same_length

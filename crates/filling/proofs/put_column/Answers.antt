@@ -30,30 +30,27 @@ pub offset_bounds-cells-at : goal.offset_bounds-cells-at
 offset_bounds-cells-at c =
     let within : c.loop-i.at < length c.loop-i.cells =
     let l = c.loop-i in
-    let b = c.before.before in
-    let a = b.args in
+    let a = c.args in
     let inside : (a.line + l.i) * a.n + a.k < length a.cells.now =
-    in_lines a.n (a.line + l.i) (a.line + block_size) a.k _ (omega (arith, c.loop-i-test.true)) b.requires.k_lt_n b.requires.block_size_in_bounds in
+    in_lines a.n (a.line + l.i) (a.line + block_size) a.k _ (omega (arith, c.loop-i-test.true)) c.requires.k_lt_n c.requires.block_size_in_bounds in
     omega (arith, l.invariant.1, l.invariant.2.same_length) in omega (arith, within)
 
 pub bounds-cells-at : goal.bounds-cells-at
 bounds-cells-at c =
     let within : c.loop-i.at < length c.loop-i.cells =
     let l = c.loop-i in
-    let b = c.before.before in
-    let a = b.args in
+    let a = c.args in
     let inside : (a.line + l.i) * a.n + a.k < length a.cells.now =
-    in_lines a.n (a.line + l.i) (a.line + block_size) a.k _ (omega (arith, c.loop-i-test.true)) b.requires.k_lt_n b.requires.block_size_in_bounds in
+    in_lines a.n (a.line + l.i) (a.line + block_size) a.k _ (omega (arith, c.loop-i-test.true)) c.requires.k_lt_n c.requires.block_size_in_bounds in
     omega (arith, l.invariant.1, l.invariant.2.same_length) in within
 
 pub overflow_add-at-in-loop-i : goal.overflow_add-at-in-loop-i
 overflow_add-at-in-loop-i c =
     let within : c.loop-i.at < length c.loop-i.cells =
     let l = c.loop-i in
-    let b = c.before.before in
-    let a = b.args in
+    let a = c.args in
     let inside : (a.line + l.i) * a.n + a.k < length a.cells.now =
-    in_lines a.n (a.line + l.i) (a.line + block_size) a.k _ (omega (arith, c.loop-i-test.true)) b.requires.k_lt_n b.requires.block_size_in_bounds in
+    in_lines a.n (a.line + l.i) (a.line + block_size) a.k _ (omega (arith, c.loop-i-test.true)) c.requires.k_lt_n c.requires.block_size_in_bounds in
     omega (arith, l.invariant.1, l.invariant.2.same_length) in omega (arith, within, c.requires.block_size_in_bounds, c.requires.k_lt_n)
 
 pub overflow_add-i : goal.overflow_add-i
@@ -66,17 +63,15 @@ pub loop-i-preserved : goal.loop-i-preserved
 loop-i-preserved c =
     let within : c.loop-i.at < length c.loop-i.cells =
     let l = c.loop-i in
-    let b = c.before.before in
-    let a = b.args in
+    let a = c.args in
     let inside : (a.line + l.i) * a.n + a.k < length a.cells.now =
-    in_lines a.n (a.line + l.i) (a.line + block_size) a.k _ (omega (arith, c.loop-i-test.true)) b.requires.k_lt_n b.requires.block_size_in_bounds in
+    in_lines a.n (a.line + l.i) (a.line + block_size) a.k _ (omega (arith, c.loop-i-test.true)) c.requires.k_lt_n c.requires.block_size_in_bounds in
     omega (arith, l.invariant.1, l.invariant.2.same_length) in
     let l = c.loop-i in
-    let b = c.before.before in
-    let a = b.args in (
+    let a = c.args in (
       omega (arith, c.loop-i-test.true),
       omega (arith, l.invariant.1),
-      rw l.invariant.1 (put_more a.n a.line a.k a.t5 a.cells.now l.cells l.i b.requires.k_lt_n (omega (arith, within, l.invariant.1)) l.invariant.2),
+      rw l.invariant.1 (put_more a.n a.line a.k a.column a.cells.now l.cells l.i c.requires.k_lt_n (omega (arith, within, l.invariant.1)) l.invariant.2),
     )
 
 pub shape_of-cells : goal.shape_of-cells

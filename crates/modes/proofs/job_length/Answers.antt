@@ -14,12 +14,6 @@ use mathlib.Core.Path.{◌≡◌, ◌∙◌, refl, sym, ap}
 use native.Mathlib.Omega.{arith}
 use Rattle.modes.proofs.job_length.Goals as goal
 
--- whether the mode of a turn reaches the speed
-abbrev reaches : goal.After-at_most → Bool
-reaches c =
-    let a = c.before.before.before.before.before.args in
-    leb a.speed.0 (get_or a.t1 c.before.before.before.before.loop.number no_mode).boundary.0
-
 pub loop-number-init : goal.loop-number-init
 loop-number-init c = (omega arith, refl)
 
@@ -28,35 +22,32 @@ unfolding job_length
 returns-then-count-number c =
     let a = c.args in
     let number = c.loop-number.number in
-    sym (c.loop-number.invariant.1 ∙ ap (λ (l : List Mode). job_length l a.speed) (none_left a.t1 a.count number (omega arith)))
+    sym (c.loop-number.invariant.1 ∙ ap (λ (l : List Mode). job_length l a.speed) (none_left a.modes a.count number (omega arith)))
 
 pub returns-then-at_most : goal.returns-then-at_most
-unfolding pick
-unfolding job_length
+unfolding pick job_length
 returns-then-at_most c =
     let a = c.args in
     let number = c.loop-number.number in
-    let m = get_or a.t1 number no_mode in
-    let behind = drop (number + 1) (take a.count a.t1) in
-    let turn : job_length (take a.count a.t1) a.speed ≡ pick (leb a.speed.0 m.boundary.0) (length_in m (first_length behind) a.speed) (job_length behind a.speed) =
+    let m = get_or a.modes number no_mode in
+    let behind = drop (number + 1) (take a.count a.modes) in
+    let turn : job_length (take a.count a.modes) a.speed ≡ pick (leb a.speed.0 m.boundary.0) (length_in m (first_length behind) a.speed) (job_length behind a.speed) =
     let a = c.args in
-    c.loop-number.invariant.1 ∙ ap (λ (l : List Mode). job_length l a.speed) (here a.t1 a.count c.loop-number.number (omega arith) (omega arith)) in
-    let met = c.before.before in
-    let reached : reaches met.before ≡ true = sym met.at_most.ensures ∙ met.if-at_most.true in
+    c.loop-number.invariant.1 ∙ ap (λ (l : List Mode). job_length l a.speed) (here a.modes a.count c.loop-number.number (omega arith) (omega arith)) in
+    let reached : leb a.speed.0 m.boundary.0 ≡ true = sym c.at_most.ensures ∙ c.if-at_most.true in
     sym (turn ∙ rw (reached, ← c.length_of-next.ensures) (sym c.length_in.ensures))
 
 pub loop-number-preserved : goal.loop-number-preserved
-unfolding pick
-unfolding job_length
+unfolding pick job_length
 loop-number-preserved c =
     let a = c.args in
     let number = c.loop-number.number in
-    let m = get_or a.t1 number no_mode in
-    let behind = drop (number + 1) (take a.count a.t1) in
-    let turn : job_length (take a.count a.t1) a.speed ≡ pick (leb a.speed.0 m.boundary.0) (length_in m (first_length behind) a.speed) (job_length behind a.speed) =
+    let m = get_or a.modes number no_mode in
+    let behind = drop (number + 1) (take a.count a.modes) in
+    let turn : job_length (take a.count a.modes) a.speed ≡ pick (leb a.speed.0 m.boundary.0) (length_in m (first_length behind) a.speed) (job_length behind a.speed) =
     let a = c.args in
-    c.loop-number.invariant.1 ∙ ap (λ (l : List Mode). job_length l a.speed) (here a.t1 a.count c.loop-number.number (omega arith) (omega arith)) in
-    let past : reaches c.before ≡ false = sym c.at_most.ensures ∙ c.if-at_most.false in
+    c.loop-number.invariant.1 ∙ ap (λ (l : List Mode). job_length l a.speed) (here a.modes a.count c.loop-number.number (omega arith) (omega arith)) in
+    let past : leb a.speed.0 m.boundary.0 ≡ false = sym c.at_most.ensures ∙ c.if-at_most.false in
     (omega arith, turn ∙ rw past)
 
 pub returns : goal.returns
@@ -64,4 +55,4 @@ unfolding job_length
 returns c =
     let a = c.args in
     let number = c.loop-number.number in
-    sym (c.loop-number.invariant.1 ∙ ap (λ (l : List Mode). job_length l a.speed) (none_left a.t1 a.count number (omega arith)))
+    sym (c.loop-number.invariant.1 ∙ ap (λ (l : List Mode). job_length l a.speed) (none_left a.modes a.count number (omega arith)))

@@ -10,16 +10,16 @@ pub returns-then-count-number : goal.returns-then-count-number
 unfolding first_length
 returns-then-count-number c =
     let a = c.args in
-    sym (ap first_length (none_left a.t1 a.count a.number (omega arith)))
+    sym (ap first_length (none_left a.modes a.count a.number (omega arith)))
 
 pub returns-then-number-ge-MODES : goal.returns-then-number-ge-MODES
 unfolding first_length
 returns-then-number-ge-MODES c =
     let a = c.args in
-    sym (ap first_length (none_left a.t1 a.count a.number (omega arith)))
+    sym (ap first_length (none_left a.modes a.count a.number (omega arith)))
 
 pub returns : goal.returns
 unfolding first_length
 returns c =
     let a = c.args in
-    sym (ap first_length (here a.t1 a.count a.number (omega arith) (omega arith)))
+    sym (ap first_length (here a.modes a.count a.number (omega arith) (omega arith)))

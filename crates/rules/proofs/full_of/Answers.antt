@@ -5,4 +5,4 @@ use Rattle.rules.proofs.full_of.Goals as goal
 
 pub returns : goal.returns
 unfolding full
-returns c = rw c.before.Line-of.ensures
+returns c = rw c.line_of-line.ensures

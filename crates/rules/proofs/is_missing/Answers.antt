@@ -6,8 +6,8 @@ use Rattle.rules.proofs.is_missing.Goals as goal
 
 pub returns-then-last-tag : goal.returns-then-last-tag
 unfolding missing
-returns-then-last-tag c = rw (← c.before.Line-of.ensures) (search judging)
+returns-then-last-tag c = rw (← c.line_of-line.ensures) (search judging)
 
 pub returns : goal.returns
 unfolding missing
-returns c = rw (← c.before.Line-of.ensures) (search judging)
+returns c = rw (← c.line_of-line.ensures) (search judging)

@@ -15,7 +15,7 @@ returns-then-tag-last c = search judging
 
 pub returns-then-tag-last-2 : goal.returns-then-tag-last-2
 unfolding out_of_order
-returns-then-tag-last-2 c = rw (← c.before.before.Line-of.ensures) (search judging)
+returns-then-tag-last-2 c = rw (← c.line_of-line.ensures) (search judging)
 
 pub loop-passed-init : goal.loop-passed-init
 unfolding out_of_order

@@ -6,16 +6,16 @@ use Rattle.rules.proofs.wrong_length.Goals as goal
 
 pub returns-then-size-line : goal.returns-then-size-line
 unfolding wrong_length
-returns-then-size-line c = rw (← c.before.before.Line-of.ensures) (search judging)
+returns-then-size-line c = rw (← c.line_of-line.ensures) (search judging)
 
 pub returns-then-line-size : goal.returns-then-line-size
 unfolding wrong_length
-returns-then-line-size c = rw (← c.before.before.before.before.Line-of.ensures) (search judging)
+returns-then-line-size c = rw (← c.line_of-line.ensures) (search judging)
 
 pub returns-then-line : goal.returns-then-line
 unfolding wrong_length
-returns-then-line c = rw (← c.before.before.before.before.before.Line-of.ensures) (search judging)
+returns-then-line c = rw (← c.line_of-line.ensures) (search judging)
 
 pub returns : goal.returns
 unfolding wrong_length
-returns c = rw (← c.before.before.before.before.before.Line-of.ensures) (search judging)
+returns c = rw (← c.line_of-line.ensures) (search judging)

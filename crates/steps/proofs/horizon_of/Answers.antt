@@ -8,25 +8,22 @@ use Rattle.steps.proofs.horizon_of.Goals as goal
 
 pub overflow_sub-result : goal.overflow_sub-result
 overflow_sub-result c =
-    let b = c.before.before in
-    fit_lines b.args.cells b.args.rows 1 b.requires.le_rows (omega (arith, b.requires.rows_le_cells))
+    fit_lines c.args.cells c.args.rows 1 c.requires.le_rows (omega (arith, c.requires.rows_le_cells))
 
 pub returns-then-longest-lines : goal.returns-then-longest-lines
 returns-then-longest-lines c =
-    let b = c.before.before in
     record {
       in_range = omega arith;
-      fits = lines_fit b.args.cells b.args.rows (longest_time + 1) b.requires.le_rows c.if-longest-lines.true;
+      fits = lines_fit c.args.cells c.args.rows (longest_time + 1) c.requires.le_rows c.if-longest-lines.true;
       largest = λ other range room. range;
     }
 
 pub returns-else-longest-lines : goal.returns-else-longest-lines
 returns-else-longest-lines c =
-    let b = c.before.before in
-    let lines = b.args.cells / b.args.rows in
-    let some : 1 ≤ lines = sub-result c in
+    let lines = c.args.cells / c.args.rows in
+    let some : 1 ≤ lines = fit_lines c.args.cells c.args.rows 1 c.requires.le_rows (omega (arith, c.requires.rows_le_cells)) in
     record {
       in_range = omega (arith, c.if-longest-lines.false);
-      fits = lines_fit b.args.cells b.args.rows (lines - 1 + 1) b.requires.le_rows (omega (arith, some));
-      largest = λ other range room. omega (arith, fit_lines b.args.cells b.args.rows (other + 1) b.requires.le_rows room);
+      fits = lines_fit c.args.cells c.args.rows (lines - 1 + 1) c.requires.le_rows (omega (arith, some));
+      largest = λ other range room. omega (arith, fit_lines c.args.cells c.args.rows (other + 1) c.requires.le_rows room);
     }

@@ -12,37 +12,29 @@ use Rattle.steps.proofs.next_due.Goals as goal
 pub returns-then-from-first : goal.returns-then-from-first
 returns-then-from-first c =
     let first-job : c.first_due-first.result + c.args.task.jitter.0 ≡ c.args.task.deadline.0 = omega (arith, c.first_due-first.ensures, c.requires.proper_task.jitter) in
-    let f = c.before.before in
-    let s = f.before in
-    let task = times_of s.args.task in
+    let task = times_of c.args.task in
     rw c.sooner.ensures
-    (next_rise_is_due task s.requires.proper_task.length.0 s.requires.proper_task.period.0 s.args.from s.requires.le_from.0 _
-    (due_first task (s.args.from - 1) f.first_due-first.result (first-job) (omega (arith, c.if-from-first.true, s.requires.le_from))) s.args.horizon s.requires.le_from.1)
+    (next_rise_is_due task c.requires.proper_task.length.0 c.requires.proper_task.period.0 c.args.from c.requires.le_from.0 _
+    (due_first task (c.args.from - 1) c.first_due-first.result (first-job) (omega (arith, c.if-from-first.true, c.requires.le_from))) c.args.horizon c.requires.le_from.1)
 
 pub returns : goal.returns
 returns c =
     let first-job : c.first_due-first.result + c.args.task.jitter.0 ≡ c.args.task.deadline.0 = omega (arith, c.first_due-first.ensures, c.requires.proper_task.jitter) in
-    let f = c.before.before.before in
-    let s = f.before in
-    let task = times_of s.args.task in
+    let task = times_of c.args.task in
     rw c.sooner-2.ensures
-    (next_rise_is_due task s.requires.proper_task.length.0 s.requires.proper_task.period.0 s.args.from s.requires.le_from.0 _
-    (due_after_lem task s.requires.proper_task.period.0 f.first_due-first.result s.args.from (first-job) c.if-from-first.false) s.args.horizon s.requires.le_from.1)
+    (next_rise_is_due task c.requires.proper_task.length.0 c.requires.proper_task.period.0 c.args.from c.requires.le_from.0 _
+    (due_after_lem task c.requires.proper_task.period.0 c.first_due-first.result c.args.from (first-job) c.if-from-first.false) c.args.horizon c.requires.le_from.1)
 
 pub overflow_add-jobs : goal.overflow_add-jobs
 overflow_add-jobs c =
-    let f = c.before.before in
-    let s = f.before in
-    omega (arith, div-le_self (s.args.from - f.first_due-first.result - 1) s.args.task.period.0, s.requires.1)
+    omega (arith, div-le_self (c.args.from - c.first_due-first.result - 1) c.args.task.period.0, c.requires.horizon_le_longest_time, c.requires.le_from)
 
 pub overflow_mul-jobs : goal.overflow_mul-jobs
 overflow_mul-jobs c =
-    let f = c.before.before in
-    let left = f.args.from - f.first_due-first.result - 1 in
-    let passed : left / f.args.task.period.0 * f.args.task.period.0 ≤ left = div-mul-le_self _ _ in omega (arith, passed, c.requires.1)
+    let left = c.args.from - c.first_due-first.result - 1 in
+    let passed : left / c.args.task.period.0 * c.args.task.period.0 ≤ left = div-mul-le_self _ _ in omega (arith, passed, c.requires.horizon_le_longest_time, c.requires.le_from)
 
 pub overflow_add-first : goal.overflow_add-first
 overflow_add-first c =
-    let f = c.before.before in
-    let left = f.args.from - f.first_due-first.result - 1 in
-    let passed : left / f.args.task.period.0 * f.args.task.period.0 ≤ left = div-mul-le_self _ _ in omega (arith, passed, c.requires.1)
+    let left = c.args.from - c.first_due-first.result - 1 in
+    let passed : left / c.args.task.period.0 * c.args.task.period.0 ≤ left = div-mul-le_self _ _ in omega (arith, passed, c.requires.horizon_le_longest_time, c.requires.le_from)

@@ -25,27 +25,28 @@ offset_bounds-tasks-i c =
 
 pub next_due-requires : goal.next_due-requires
 next_due-requires c =
-    let s = c.before.before.before in
-    (s.requires.proper_tasks.each c.loop-i.i c.loop-i-test.true, s.requires.1)
+    record {
+      proper_task = c.requires.proper_tasks.each c.loop-i.i c.loop-i-test.true;
+      horizon_le_longest_time = c.requires.horizon_le_longest_time;
+      le_from = c.requires.le_from;
+    }
 
 pub loop-i-preserved : goal.loop-i-preserved
 loop-i-preserved c =
-    let s = c.before.before.before.before.before in
     let l = c.loop-i in
-    let task = times_of (get_or s.args.t1 l.i no_task) in (
+    let task = times_of (get_or c.args.tasks l.i no_task) in (
       omega (arith, c.loop-i-test.true),
-      rises_alike _ _ (λ t. sum_more s.args.t1 s.args.count s.requires.proper_tasks l.i t c.loop-i-test.true) _ _ _
+      rises_alike _ _ (λ t. sum_more c.args.tasks c.args.count c.requires.proper_tasks l.i t c.loop-i-test.true) _ _ _
           (rw c.sooner-next.ensures
-          (sum_rises (fixed_sum (take l.i (counted_tasks s.args.t1 s.args.count))) (fixed_of task)
+          (sum_rises (fixed_sum (take l.i (counted_tasks c.args.tasks c.args.count))) (fixed_of task)
           (λ t. fixed_sum_grows (t - 1) t (omega arith) _) (λ t. fixed_grows (t - 1) t (omega arith) task) _ _ _ _ l.invariant.1 c.next_due.ensures)),
     )
 
 pub returns : goal.returns
 returns c =
-    let s = c.before.before in
     let l = c.loop-i in
-    let all : l.i ≡ s.args.count = omega arith in
-    rises_alike _ _ (λ t. sym (sum_all s.args.t1 s.args.count s.requires.proper_tasks t)) _ _ _ (rw all at l.invariant.1)
+    let all : l.i ≡ c.args.count = omega arith in
+    rises_alike _ _ (λ t. sym (sum_all c.args.tasks c.args.count c.requires.proper_tasks t)) _ _ _ (rw all at l.invariant.1)
 
 pub overflow_add-i : goal.overflow_add-i
 overflow_add-i c =

@@ -15,16 +15,14 @@ overflow_sub-from c = c.requires.le_from.0
 
 pub demand_of-last-requires : goal.demand_of-last-requires
 demand_of-last-requires c =
-    let b = c.before in
-    lines_upto _ b.args.rows b.args.horizon (b.args.from - 1) (omega (arith, b.requires.le_from)) b.requires.horizon_in_bounds
+    lines_upto _ c.args.rows c.args.horizon (c.args.from - 1) (omega (arith, c.requires.le_from)) c.requires.horizon_in_bounds
 
 pub loop-interval-init : goal.loop-interval-init
-loop-interval-init c = (omega arith, c.requires.le_from.1, c.demand_of_lem.ensures, λ passed a b. absurd (omega arith))
+loop-interval-init c = (omega arith, c.requires.le_from.1, c.demand_of-last.ensures, λ passed a b. absurd (omega arith))
 
 pub demand_of-amount-requires : goal.demand_of-amount-requires
 demand_of-amount-requires c =
-    let b = c.before.before.before.before in
-    lines_upto _ b.args.rows b.args.horizon c.loop-interval.interval c.loop-interval-test.true b.requires.horizon_in_bounds
+    lines_upto _ c.args.rows c.args.horizon c.loop-interval.interval c.loop-interval-test.true c.requires.horizon_in_bounds
 
 pub returns-then-last-amount : goal.returns-then-last-amount
 returns-then-last-amount c =

@@ -14,8 +14,7 @@ use Rattle.witness.proofs.first_with.Goals as goal
 -- the row found is the first
 pub returns-then-cells-line : goal.returns-then-cells-line
 returns-then-cells-line c =
-    let l = c.before.before.before in
-    seek_is _ _ l.loop-k.k c.loop-k-test.true (eq-eqb _ _ c.if-cells-line.true) (λ i h. ne_eqb _ _ (l.loop-k.invariant.1 i h))
+    seek_is _ _ c.loop-k.k c.loop-k-test.true (eq-eqb _ _ c.if-cells-line.true) (λ i h. ne_eqb _ _ (c.loop-k.invariant.1 i h))
 
 pub overflow_mul-line : goal.overflow_mul-line
 overflow_mul-line c = omega (arith, c.requires)
@@ -27,22 +26,19 @@ pub overflow_add-line : goal.overflow_add-line
 overflow_add-line c =
     let a = c.args in
     let within : a.t * a.n + c.loop-k.k < length a.cells.now =
-    let b = c.before.before in
-    in_lines b.args.n b.args.t (b.args.t + 1) c.loop-k.k (length b.args.cells.now) (omega arith) c.loop-k-test.true b.requires in omega (arith, within)
+    in_lines c.args.n c.args.t (c.args.t + 1) c.loop-k.k (length c.args.cells.now) (omega arith) c.loop-k-test.true c.requires in omega (arith, within)
 
 pub offset_bounds-cells-line : goal.offset_bounds-cells-line
 offset_bounds-cells-line c =
     let a = c.args in
     let within : a.t * a.n + c.loop-k.k < length a.cells.now =
-    let b = c.before.before in
-    in_lines b.args.n b.args.t (b.args.t + 1) c.loop-k.k (length b.args.cells.now) (omega arith) c.loop-k-test.true b.requires in omega (arith, within)
+    in_lines c.args.n c.args.t (c.args.t + 1) c.loop-k.k (length c.args.cells.now) (omega arith) c.loop-k-test.true c.requires in omega (arith, within)
 
 pub bounds-cells-line : goal.bounds-cells-line
 bounds-cells-line c =
     let a = c.args in
     let within : a.t * a.n + c.loop-k.k < length a.cells.now =
-    let b = c.before.before in
-    in_lines b.args.n b.args.t (b.args.t + 1) c.loop-k.k (length b.args.cells.now) (omega arith) c.loop-k-test.true b.requires in within
+    in_lines c.args.n c.args.t (c.args.t + 1) c.loop-k.k (length c.args.cells.now) (omega arith) c.loop-k-test.true c.requires in within
 
 pub loop-k-preserved : goal.loop-k-preserved
 loop-k-preserved c =

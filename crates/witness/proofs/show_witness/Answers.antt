@@ -23,8 +23,7 @@ write_witness-requires c =
     let counted : c.witness_count-count.result ≡ length (witness_of (graph a.bytes.now) a.t) = c.witness_count-count.ensures in
     let a = c.args in
     let fits : length (witness_of (graph a.bytes.now) a.t) ≤ length a.area.now = omega (arith, counted, c.if-area-count.false) in
-    let s = c.before.before.before.before.before.before in
-    record { laid = s.requires.laid; t_le_longest_time = s.requires.t_le_longest_time; has_lines = s.requires.has_lines; t_in_bounds = fits }
+    record { laid = c.requires.laid; t_le_longest_time = c.requires.t_le_longest_time; has_lines = c.requires.has_lines; t_in_bounds = fits }
 
 pub returns : goal.returns
 returns c =
@@ -32,7 +31,6 @@ returns c =
     let counted : c.witness_count-count.result ≡ length (witness_of (graph a.bytes.now) a.t) = c.witness_count-count.ensures in
     let a = c.args in
     let fits : length (witness_of (graph a.bytes.now) a.t) ≤ length a.area.now = omega (arith, counted, c.if-area-count.false) in
-    let e = c.before.before.before.before in
-    let a = e.args in
+    let a = c.args in
     let written = c.write_witness.ensures in
     shown_written (witness_of (graph a.bytes.now) a.t) a.area.now _ TooLong _ _ (fits) (ap Rows written.counted) written.is

@@ -5,4 +5,4 @@ use Rattle.witness.proofs.start.Goals as goal
 
 pub returns : goal.returns
 unfolding start_of
-returns c = rw (c.first_with-row.ensures, c.before.demand_of_lem.ensures)
+returns c = rw (c.first_with-row.ensures, c.demand_of-work.ensures)

@@ -10,66 +10,59 @@ use Rattle.witness.proofs.Witnesses.{OnWay}
 use Rattle.witness.proofs.Steps.{starts_none, starts, step_row, step_inside, step_few, step_last, step_asks, step_on, count_more}
 use Rattle.witness.proofs.witness_count.Goals as goal
 
-abbrev start : goal.At-loop-stand → goal.Start
-start c = c.before.before.before.before.before.before
-
 pub start-stand-requires : goal.start-stand-requires
 start-stand-requires c = c.requires.has_lines.room
 
 pub returns-then-stand-eq0 : goal.returns-then-stand-eq0
 returns-then-stand-eq0 c =
-    let b = c.before.before.before.before.before in
-    ap length (starts_none _ _ _ _ b.requires.laid _ _ b.requires.has_lines _ c.start-stand.ensures c.if-stand-eq0.true)
+    ap length (starts_none _ _ _ _ c.requires.laid _ _ c.requires.has_lines _ c.start-stand.ensures c.if-stand-eq0.true)
 
 pub loop-stand-init : goal.loop-stand-init
 loop-stand-init c =
-    let b = c.before.before.before.before.before in
-    ([], starts _ _ _ _ b.requires.laid _ _ b.requires.has_lines _ c.start-stand.ensures c.if-stand-eq0.false, refl)
+    ([], starts _ _ _ _ c.requires.laid _ _ c.requires.has_lines _ c.start-stand.ensures c.if-stand-eq0.false, refl)
 
 pub overflow_add-count : goal.overflow_add-count
 overflow_add-count c =
-    let few : c.loop-stand.count < (start c).args.t = omega (arith, c.loop-stand.invariant.2, step_few _ _ _ _ (start c).requires.0 _ _ (start c).requires.1.1 _ _ c.loop-stand.invariant.1) in omega (arith, few, (start c).requires.1.0)
+    let few : c.loop-stand.count < c.args.t = omega (arith, c.loop-stand.invariant.2, step_few _ _ _ _ c.requires.laid _ _ c.requires.has_lines _ _ c.loop-stand.invariant.1) in omega (arith, few, c.requires.t_le_longest_time)
 
 pub offset_bounds-lengths-k : goal.offset_bounds-lengths-k
 offset_bounds-lengths-k c =
-    let row-few : c.loop-stand.stand.row < row_limit = step_row _ _ _ _ (start c).requires.0 _ _ (start c).requires.1.1 _ _ c.loop-stand.invariant.1 in omega (arith, row-few)
+    let row-few : c.loop-stand.stand.row < row_limit = step_row _ _ _ _ c.requires.laid _ _ c.requires.has_lines _ _ c.loop-stand.invariant.1 in omega (arith, row-few)
 
 pub bounds-lengths-k : goal.bounds-lengths-k
 bounds-lengths-k c =
-    let row-few : c.loop-stand.stand.row < row_limit = step_row _ _ _ _ (start c).requires.0 _ _ (start c).requires.1.1 _ _ c.loop-stand.invariant.1 in omega (arith, row-few)
+    let row-few : c.loop-stand.stand.row < row_limit = step_row _ _ _ _ c.requires.laid _ _ c.requires.has_lines _ _ c.loop-stand.invariant.1 in omega (arith, row-few)
 
 pub returns-then-stand-own : goal.returns-then-stand-own
 returns-then-stand-own c =
-    let l = c.before.before.before in
-    count_more l.loop-stand.invariant.0 l.loop-stand.stand.row l.loop-stand.count l.loop-stand.invariant.2
-    ∙ ap length (step_last _ _ _ _ (start l).requires.0 _ _ (start l).requires.1.1 _ _ l.loop-stand.invariant.1 c.if-stand-own.true)
+    count_more c.loop-stand.invariant.0 c.loop-stand.stand.row c.loop-stand.count c.loop-stand.invariant.2
+    ∙ ap length (step_last _ _ _ _ c.requires.laid _ _ c.requires.has_lines _ _ c.loop-stand.invariant.1 c.if-stand-own.true)
 
 pub offset_bounds-places-k : goal.offset_bounds-places-k
 offset_bounds-places-k c =
-    let row-few : c.loop-stand.stand.row < row_limit = step_row _ _ _ _ (start c).requires.0 _ _ (start c).requires.1.1 _ _ c.loop-stand.invariant.1 in omega (arith, row-few)
+    let row-few : c.loop-stand.stand.row < row_limit = step_row _ _ _ _ c.requires.laid _ _ c.requires.has_lines _ _ c.loop-stand.invariant.1 in omega (arith, row-few)
 
 pub bounds-places-k : goal.bounds-places-k
 bounds-places-k c =
-    let row-few : c.loop-stand.stand.row < row_limit = step_row _ _ _ _ (start c).requires.0 _ _ (start c).requires.1.1 _ _ c.loop-stand.invariant.1 in omega (arith, row-few)
+    let row-few : c.loop-stand.stand.row < row_limit = step_row _ _ _ _ c.requires.laid _ _ c.requires.has_lines _ _ c.loop-stand.invariant.1 in omega (arith, row-few)
 
 pub row_at-row-requires : goal.row_at-row-requires
 row_at-row-requires c =
-    let l = c.before.before.before.before in
-    step_inside _ _ _ _ (start l).requires.0 _ _ (start l).requires.1.1 _ _ l.loop-stand.invariant.1
+    step_inside _ _ _ _ c.requires.laid _ _ c.requires.has_lines _ _ c.loop-stand.invariant.1
 
 pub onward-stand-requires : goal.onward-stand-requires
 onward-stand-requires c =
-    let l = c.before.before.before.before.before in
-    step_asks _ _ _ _ (start l).requires.0 _ _ (start l).requires.1.1 _ _ l.loop-stand.invariant.1 c.if-stand-own.false _ c.row_at-row.ensures
+    let asked = step_asks _ _ _ _ c.requires.laid _ _ c.requires.has_lines _ _ c.loop-stand.invariant.1 c.if-stand-own.false _ c.row_at-row.ensures in
+    record { proper_row = asked.0; left_in_bounds = asked.1.0; own_lt_work = asked.1.1.0; stand_bound = asked.1.1.1 }
 
 pub loop-stand-smaller : goal.loop-stand-smaller
 loop-stand-smaller c =
-    let few : c.loop-stand.count < (start c).args.t = omega (arith, c.loop-stand.invariant.2, step_few _ _ _ _ (start c).requires.0 _ _ (start c).requires.1.1 _ _ c.loop-stand.invariant.1) in omega (arith, few)
+    let few : c.loop-stand.count < c.args.t = omega (arith, c.loop-stand.invariant.2, step_few _ _ _ _ c.requires.laid _ _ c.requires.has_lines _ _ c.loop-stand.invariant.1) in omega (arith, few)
 
 pub loop-stand-preserved : goal.loop-stand-preserved
 loop-stand-preserved c =
-    let l = c.before.before.before.before.before.before in (
+    (
       _,
-      step_on _ _ _ _ (start l).requires.0 _ _ (start l).requires.1.1 _ _ l.loop-stand.invariant.1 c.if-stand-own.false _ c.row_at-row.ensures _ c.onward-stand.ensures,
-      count_more l.loop-stand.invariant.0 l.loop-stand.stand.row l.loop-stand.count l.loop-stand.invariant.2,
+      step_on _ _ _ _ c.requires.laid _ _ c.requires.has_lines _ _ c.loop-stand.invariant.1 c.if-stand-own.false _ c.row_at-row.ensures _ c.onward-stand.ensures,
+      count_more c.loop-stand.invariant.0 c.loop-stand.stand.row c.loop-stand.count c.loop-stand.invariant.2,
     )

@@ -8,6 +8,7 @@ use native.Mathlib.Omega.{arith}
 use lib.ListN.{length, get_or}
 use Rattle.words.specs.Numbers.{IsDigit, value_upto}
 use Rattle.words.proofs.Digits.{value_none, value_more, value_small}
+use Rattle.words.proofs.number_of.Goals.{then-word-eq48+else-size-gt1, else-word-eq48}
 use Rattle.words.proofs.number_of.Goals as goal
 
 pub returns-then-size-eq0 : goal.returns-then-size-eq0
@@ -26,10 +27,10 @@ pub loop-i-init : goal.loop-i-init
 loop-i-init c =
     let word = c.args.word.now in
     let zero_alone : get_or word 0 0 ≡ 48 → length word ≡ 1 = λ e.
-    ⊎_elim
-    (λ p. omega (arith, p.1.left, c.if-size-eq0.false))
-    (λ p. absurd (p.left e))
-    c.if-word-eq48.branch in (omega arith, value_none _, below_none _, zero_alone)
+    elim c.if-word-eq48.branch [
+      then-word-eq48+else-size-gt1 w ↦ omega (arith, w.if-size-gt1.false, c.if-size-eq0.false)
+    | else-word-eq48 w ↦ absurd (w.if-word-eq48.false e)
+    ] in (omega arith, value_none _, below_none _, zero_alone)
 
 pub returns-then-byte-lt48 : goal.returns-then-byte-lt48
 returns-then-byte-lt48 c n = omega (arith, n.digits c.loop-i.i c.loop-i-test.true, c.if-byte-lt48.true)
@@ -67,10 +68,10 @@ pub returns : goal.returns
 returns c =
     let word = c.args.word.now in
     let zero_alone : get_or word 0 0 ≡ 48 → length word ≡ 1 = λ e.
-    ⊎_elim
-    (λ p. omega (arith, p.1.left, c.if-size-eq0.false))
-    (λ p. absurd (p.left e))
-    c.if-word-eq48.branch in
+    elim c.if-word-eq48.branch [
+      then-word-eq48+else-size-gt1 w ↦ omega (arith, w.if-size-gt1.false, c.if-size-eq0.false)
+    | else-word-eq48 w ↦ absurd (w.if-word-eq48.false e)
+    ] in
     let l = c.loop-i in
     let word = c.args.word.now in
     let all : l.i ≡ length word = omega (arith, l.invariant.0, c.loop-i-test.false) in (

@@ -28,19 +28,12 @@ pub returns-then-same-5 : goal.returns-then-same-5
 returns-then-same-5 c = c.same-5.ensures.0 c.if-same-5.true
 
 -- none of the names is the word
-none : (c : goal.Else-same-5) (question : Question) →
-    let word = c.args.word.now in
-    word ≡ name_of question → ⊥
-none c Fits =
-    let first = c.before.before.before.before.before.before.before.before.before.before.before.before in
-    other _ _ first.same.ensures first.if-same.false
-none c Curve =
-    let second = c.before.before.before.before.before.before.before.before.before in
-    other _ _ second.same-2.ensures second.if-same-2.false
-none c Chart =
-    let third = c.before.before.before.before.before.before in
-    other _ _ third.same-3.ensures third.if-same-3.false
-none c At =
-    let fourth = c.before.before.before in
-    other _ _ fourth.same-4.ensures fourth.if-same-4.false
-none c Shortest = other _ _ c.same-5.ensures c.if-same-5.false
+pub returns : goal.returns
+returns c question =
+    elim question as (λ q. c.args.word.now ≡ name_of q → ⊥) [
+      Fits ↦ other _ _ c.same.ensures c.if-same.false
+    | Curve ↦ other _ _ c.same-2.ensures c.if-same-2.false
+    | Chart ↦ other _ _ c.same-3.ensures c.if-same-3.false
+    | At ↦ other _ _ c.same-4.ensures c.if-same-4.false
+    | Shortest ↦ other _ _ c.same-5.ensures c.if-same-5.false
+    ]

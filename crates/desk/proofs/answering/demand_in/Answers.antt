@@ -15,44 +15,41 @@ use Rattle.desk.proofs.answering.demand_in.Goals as goal
 pub fill-requires : goal.fill-requires
 fill-requires c =
     let room : c.args.head.tally.rows * (c.args.t + 1) ≤ length c.args.cells.now = room_told _ _ _ c.requires.handed (c.args.t + 1) c.args.cells.now c.requires.t_in_bounds in
-    let s = c.before.before.before.before.before.before.before in
-    record { laid = c.job_lengths-lengths.ensures; lines_bound = omega (arith, s.requires.t_le_longest_time); lines_in_bounds = room }
+    record { laid = c.job_lengths-lengths.ensures; lines_bound = omega (arith, c.requires.t_le_longest_time); lines_in_bounds = room }
 
 pub demand_of-amount-requires : goal.demand_of-amount-requires
 demand_of-amount-requires c =
     let room : c.args.head.tally.rows * (c.args.t + 1) ≤ length c.args.cells.now = room_told _ _ _ c.requires.handed (c.args.t + 1) c.args.cells.now c.requires.t_in_bounds in
     let a = c.args in
     let table : HasLines a.head.tally.rows (ByInterval (graph a.bytes.now)) c.fill.new.cells (a.t + 1) =
-    let s = c.before.before.before.before.before.before.before.before in
-    lines_told _ _ _ s.requires.handed _ _ _ (room) c.fill.ensures in (table).room
+    lines_told _ _ _ c.requires.handed _ _ _ (room) c.fill.ensures in (table).room
 
 pub show_witness-requires : goal.show_witness-requires
 show_witness-requires c =
     let room : c.args.head.tally.rows * (c.args.t + 1) ≤ length c.args.cells.now = room_told _ _ _ c.requires.handed (c.args.t + 1) c.args.cells.now c.requires.t_in_bounds in
     let a = c.args in
     let table : HasLines a.head.tally.rows (ByInterval (graph a.bytes.now)) c.fill.new.cells (a.t + 1) =
-    let s = c.before.before.before.before.before.before.before.before in
-    lines_told _ _ _ s.requires.handed _ _ _ (room) c.fill.ensures in
-    let s = c.before.before.before.before.before.before.before.before.before.before.before.before.before.before.before in
-    record { laid = c.job_lengths-lengths.ensures; t_le_longest_time = s.requires.t_le_longest_time; has_lines = table }
-
--- what is answered with the witness as it is shown
-answered : (c : goal.After-show_witness) (shown : Shown) → c.show_witness.result ≡ shown →
-    let a = c.args in
-    let filled = c.fill.new.cells in
-    DemandAnswers a.bytes.now a.t a.cells.now a.area.now (demand_as c.before.before.before.before.demand_of_lem.result shown) filled c.show_witness.new.area
-answered c shown e =
-    let s = c.before.before.before.before.before.before.before.before.before.before.before.before.before.before.before.before in
-    let a = s.args in
-    let f = c.fill in
-    let amount = c.before.before.before.before.demand_of_lem in
-    let w = c.show_witness in
-    let area = w.new.area in
-    subst (λ (x : Shown). DemandAnswers a.bytes.now a.t a.cells.now a.area.now (demand_as amount.result x) f.new.cells area) e
-    (demand_shown _ _ _ s.requires.handed _ _ _ (room s) f.ensures _ a.area.now area w.result amount.ensures w.ensures)
+    lines_told _ _ _ c.requires.handed _ _ _ (room) c.fill.ensures in
+    record { laid = c.job_lengths-lengths.ensures; t_le_longest_time = c.requires.t_le_longest_time; has_lines = table }
 
 pub returns-in-Rows : goal.returns-in-Rows
-returns-in-Rows c = answered c.before.before.before.before.before _ c.in-Rows.is
+returns-in-Rows c =
+    let room : c.args.head.tally.rows * (c.args.t + 1) ≤ length c.args.cells.now = room_told _ _ _ c.requires.handed (c.args.t + 1) c.args.cells.now c.requires.t_in_bounds in
+    let a = c.args in
+    let f = c.fill in
+    let amount = c.demand_of-amount in
+    let w = c.show_witness in
+    let area = w.new.area in
+    subst (λ (x : Shown). DemandAnswers a.bytes.now a.t a.cells.now a.area.now (demand_as amount.result x) f.new.cells area) c.in-Rows.is
+    (demand_shown _ _ _ c.requires.handed _ _ _ room f.ensures _ a.area.now area w.result amount.ensures w.ensures)
 
 pub returns-in-TooLong : goal.returns-in-TooLong
-returns-in-TooLong c = answered c.before.before.before.before _ c.in-TooLong.is
+returns-in-TooLong c =
+    let room : c.args.head.tally.rows * (c.args.t + 1) ≤ length c.args.cells.now = room_told _ _ _ c.requires.handed (c.args.t + 1) c.args.cells.now c.requires.t_in_bounds in
+    let a = c.args in
+    let f = c.fill in
+    let amount = c.demand_of-amount in
+    let w = c.show_witness in
+    let area = w.new.area in
+    subst (λ (x : Shown). DemandAnswers a.bytes.now a.t a.cells.now a.area.now (demand_as amount.result x) f.new.cells area) c.in-TooLong.is
+    (demand_shown _ _ _ c.requires.handed _ _ _ room f.ensures _ a.area.now area w.result amount.ensures w.ensures)

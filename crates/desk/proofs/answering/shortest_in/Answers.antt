@@ -10,24 +10,21 @@ use Rattle.desk.proofs.answering.shortest_in.Goals as goal
 pub fill-requires : goal.fill-requires
 fill-requires c =
     let room : c.args.head.tally.rows * c.args.amount ≤ length c.args.cells.now = room_told _ _ _ c.requires.handed c.args.amount c.args.cells.now c.requires.amount_in_bounds in
-    let s = c.before.before.before.before.before.before in
-    record { laid = c.job_lengths-lengths.ensures; lines_bound = s.requires.amount_bound; lines_in_bounds = room }
+    record { laid = c.job_lengths-lengths.ensures; lines_bound = c.requires.amount_bound; lines_in_bounds = room }
 
 pub shortest_of-time-requires : goal.shortest_of-time-requires
 shortest_of-time-requires c =
     let room : c.args.head.tally.rows * c.args.amount ≤ length c.args.cells.now = room_told _ _ _ c.requires.handed c.args.amount c.args.cells.now c.requires.amount_in_bounds in
-    let s = c.before.before.before.before.before.before.before.before.before.before in record { le_amount = omega (arith, s.requires.le_amount); amount_in_bounds = rw c.fill.ensures.same_length (room_for_fewer _ s.args.amount _ _ (omega (arith, s.requires.le_amount)) (room)) }
+    record { le_amount = omega (arith, c.requires.le_amount); amount_in_bounds = rw c.fill.ensures.same_length (room_for_fewer _ c.args.amount _ _ (omega (arith, c.requires.le_amount)) (room)) }
 
 pub returns-then-time : goal.returns-then-time
 returns-then-time c =
     let room : c.args.head.tally.rows * c.args.amount ≤ length c.args.cells.now = room_told _ _ _ c.requires.handed c.args.amount c.args.cells.now c.requires.amount_in_bounds in
-    let s = c.before.before.before.before.before.before.before.before.before.before.before.before in
-    shortest_answers _ _ _ s.requires.handed _ s.requires.le_amount _ _ (room) c.fill.ensures
-    _ _ c.before.shortest_of_lem.ensures (gives_none _ c.if-time.true)
+    shortest_answers _ _ _ c.requires.handed _ c.requires.le_amount _ _ (room) c.fill.ensures
+    _ _ c.shortest_of-time.ensures (gives_none _ c.if-time.true)
 
 pub returns : goal.returns
 returns c =
     let room : c.args.head.tally.rows * c.args.amount ≤ length c.args.cells.now = room_told _ _ _ c.requires.handed c.args.amount c.args.cells.now c.requires.amount_in_bounds in
-    let s = c.before.before.before.before.before.before.before.before.before.before.before.before in
-    shortest_answers _ _ _ s.requires.handed _ s.requires.le_amount _ _ (room) c.fill.ensures
-    _ _ c.before.shortest_of_lem.ensures (gives_time _ c.if-time.false)
+    shortest_answers _ _ _ c.requires.handed _ c.requires.le_amount _ _ (room) c.fill.ensures
+    _ _ c.shortest_of-time.ensures (gives_time _ c.if-time.false)

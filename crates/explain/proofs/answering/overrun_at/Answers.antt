@@ -14,13 +14,12 @@ pub returns-in-TooLong : goal.returns-in-TooLong
 returns-in-TooLong c =
     let a = c.args in
     let cause = c.cause_of-cause in
-    too_long_told a.n a.tasks a.count a.cells.now a.t a.fixed _ cause.result a.shown c.before.before.before.before.demand_of_lem.ensures cause.ensures
+    too_long_told a.n a.tasks a.count a.cells.now a.t a.fixed _ cause.result a.shown c.demand_of-engine.ensures cause.ensures
     _ c.in-TooLong.is c.without_demands.ensures
 
 pub returns-in-Rows : goal.returns-in-Rows
 returns-in-Rows c =
-    let s = c.before.before.before.before.before.before.before in
-    let a = s.args in
+    let a = c.args in
     let cause = c.cause_of-cause in
-    numbers_told a.n a.tasks a.count a.cells.now a.t a.fixed _ cause.result a.shown c.before.before.before.before.before.demand_of_lem.ensures cause.ensures
-    _ _ c.in-Rows.is s.requires.fixed_value c.demands_at.ensures
+    numbers_told a.n a.tasks a.count a.cells.now a.t a.fixed _ cause.result a.shown c.demand_of-engine.ensures cause.ensures
+    _ _ c.in-Rows.is c.requires.fixed_value c.demands_at.ensures

@@ -21,8 +21,7 @@ bounds-tasks-i c =
 
 pub fixed_of-requires : goal.fixed_of-requires
 fixed_of-requires c =
-    let s = c.before.before.before in
-    record { proper_task = s.requires.proper_tasks.each c.loop-i.i c.loop-i-test.true; t_le_longest_time = s.requires.t_le_longest_time }
+    record { proper_task = c.requires.proper_tasks.each c.loop-i.i c.loop-i-test.true; t_le_longest_time = c.requires.t_le_longest_time }
 
 pub offset_bounds-demands-i : goal.offset_bounds-demands-i
 offset_bounds-demands-i c =
@@ -38,13 +37,11 @@ overflow_add-i c =
 
 pub loop-i-preserved : goal.loop-i-preserved
 loop-i-preserved c =
-    let s = c.before.before.before.before in
     let l = c.loop-i in
-    (omega arith, demand_more s.args.t1 s.args.count s.requires.proper_tasks s.args.t _ l.i _ c.loop-i-test.true l.invariant.1 c.fixed_of.ensures.0)
+    (omega arith, demand_more c.args.tasks c.args.count c.requires.proper_tasks c.args.t _ l.i _ c.loop-i-test.true l.invariant.1 c.fixed_of.ensures.0)
 
 pub returns : goal.returns
 returns c =
-    let s = c.before.before in
     let l = c.loop-i in
-    let all : l.i ≡ s.args.count = omega arith in
-    l.invariant.1 ∙ demands_whole s.args.t1 s.args.count s.requires.proper_tasks s.args.t l.i all
+    let all : l.i ≡ c.args.count = omega arith in
+    l.invariant.1 ∙ demands_whole c.args.tasks c.args.count c.requires.proper_tasks c.args.t l.i all

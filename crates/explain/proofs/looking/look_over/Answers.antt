@@ -19,9 +19,7 @@ loop-t-init c = looking_start _ _ _ _ _ _ _ c.times_of-times.ensures.room
 
 pub advance-fixed-requires : goal.advance-fixed-requires
 advance-fixed-requires c =
-    let i = c.before.before.before in
-    let s = i.before.before.before.before.before.before.before in
-    record { dues_len = i.loop-t.invariant.sweeping.room; count_le_task_limit = s.requires.proper_tasks.most; t_le_longest_time = omega (arith, s.requires.horizon_le_longest_time, i.loop-t-test.true) }
+    record { dues_len = c.loop-t.invariant.sweeping.room; count_le_task_limit = c.requires.proper_tasks.most; t_le_longest_time = omega (arith, c.requires.horizon_le_longest_time, c.loop-t-test.true) }
 
 pub overflow_add-fixed : goal.overflow_add-fixed
 overflow_add-fixed c =
@@ -30,21 +28,17 @@ overflow_add-fixed c =
     let a = c.args in
     let begun : Running (counted_tasks a.tasks a.count) times.lengths times.periods times.dues 0 0 = running_start _ _ c.requires.proper_tasks _ c.times_of-times.ensures in
     let small : c.loop-t.fixed + c.advance-fixed.result < 2 ^ 48 =
-    let i = c.before.before.before.before in
-    let s = i.before.before.before.before.before.before.before in
     omega (
       arith,
-      (running_next _ _ _ _ _ _ _ _ _ i.loop-t.invariant.sweeping _ _ c.advance-fixed.ensures _ (counted) (begun)).sum_is,
-      tasks_fit _ _ s.requires.proper_tasks (i.loop-t.t + 1) (omega (arith, s.requires.horizon_le_longest_time, i.loop-t-test.true)),
+      (running_next _ _ _ _ _ _ _ _ _ c.loop-t.invariant.sweeping _ _ c.advance-fixed.ensures _ (counted) (begun)).sum_is,
+      tasks_fit _ _ c.requires.proper_tasks (c.loop-t.t + 1) (omega (arith, c.requires.horizon_le_longest_time, c.loop-t-test.true)),
     ) in omega (arith, small)
 
 pub demand_of-requires : goal.demand_of-requires
 demand_of-requires c =
-    let i = c.before.before.before.before in
-    let s = i.before.before.before.before.before.before.before in
-    let fewer : s.args.n * (i.loop-t.t + 1 + 1) ≤ s.args.n * (s.args.horizon + 1) =
-    mul-le-mul (omega arith) (omega (arith, i.loop-t-test.true)) in
-    omega (arith, s.requires.horizon_in_bounds)
+    let fewer : c.args.n * (c.loop-t.t + 1 + 1) ≤ c.args.n * (c.args.horizon + 1) =
+    mul-le-mul (omega arith) (omega (arith, c.loop-t-test.true)) in
+    omega (arith, c.requires.horizon_in_bounds)
 
 pub overflow_add-work : goal.overflow_add-work
 overflow_add-work c =
@@ -53,12 +47,10 @@ overflow_add-work c =
     let a = c.args in
     let begun : Running (counted_tasks a.tasks a.count) times.lengths times.periods times.dues 0 0 = running_start _ _ c.requires.proper_tasks _ c.times_of-times.ensures in
     let small : c.loop-t.fixed + c.advance-fixed.result < 2 ^ 48 =
-    let i = c.before.before.before.before in
-    let s = i.before.before.before.before.before.before.before in
     omega (
       arith,
-      (running_next _ _ _ _ _ _ _ _ _ i.loop-t.invariant.sweeping _ _ c.advance-fixed.ensures _ (counted) (begun)).sum_is,
-      tasks_fit _ _ s.requires.proper_tasks (i.loop-t.t + 1) (omega (arith, s.requires.horizon_le_longest_time, i.loop-t-test.true)),
+      (running_next _ _ _ _ _ _ _ _ _ c.loop-t.invariant.sweeping _ _ c.advance-fixed.ensures _ (counted) (begun)).sum_is,
+      tasks_fit _ _ c.requires.proper_tasks (c.loop-t.t + 1) (omega (arith, c.requires.horizon_le_longest_time, c.loop-t-test.true)),
     ) in omega (arith, small)
 
 pub returns-then-t-work : goal.returns-then-t-work
@@ -67,22 +59,18 @@ returns-then-t-work c =
     let times = c.times_of-times.result in
     let a = c.args in
     let begun : Running (counted_tasks a.tasks a.count) times.lengths times.periods times.dues 0 0 = running_start _ _ c.requires.proper_tasks _ c.times_of-times.ensures in
-    let i = c.before.before.before.before.before.before in
-    let s = i.before.before.before.before.before.before.before in
-    λ g sound is lines. looking_overrun _ _ _ _ _ _ _ _ _ _ _ _ i.loop-t.invariant _ _ c.advance-fixed.ensures _ c.before.demand_of_lem.ensures
-    i.loop-t-test.true (omega (arith, c.if-t-work.true)) _ _ (counted) (begun) (table_decides Interval g sound _ is _ _ _ s.requires.horizon_le_longest_time lines)
+    λ g sound is lines. looking_overrun _ _ _ _ _ _ _ _ _ _ _ _ c.loop-t.invariant _ _ c.advance-fixed.ensures _ c.demand_of.ensures
+    c.loop-t-test.true (omega (arith, c.if-t-work.true)) _ _ (counted) (begun) (table_decides Interval g sound _ is _ _ _ c.requires.horizon_le_longest_time lines)
 
 pub loop-t-preserved-then-margin-least : goal.loop-t-preserved-then-margin-least
 loop-t-preserved-then-margin-least c =
-    let i = c.before.before.before.before.before.before.before in
-    looking_smaller _ _ _ _ _ _ _ _ _ _ _ _ i.loop-t.invariant _ _ c.advance-fixed.ensures _ c.before.before.demand_of_lem.ensures
-    i.loop-t-test.true (omega (arith, c.if-t-work.false)) (omega (arith, c.if-margin-least.true))
+    looking_smaller _ _ _ _ _ _ _ _ _ _ _ _ c.loop-t.invariant _ _ c.advance-fixed.ensures _ c.demand_of.ensures
+    c.loop-t-test.true (omega (arith, c.if-t-work.false)) (omega (arith, c.if-margin-least.true))
 
 pub loop-t-preserved : goal.loop-t-preserved
 loop-t-preserved c =
-    let i = c.before.before.before.before.before.before.before in
-    looking_kept _ _ _ _ _ _ _ _ _ _ _ _ i.loop-t.invariant _ _ c.advance-fixed.ensures _ c.before.before.demand_of_lem.ensures
-    i.loop-t-test.true (omega (arith, c.if-t-work.false)) (omega (arith, c.if-margin-least.false))
+    looking_kept _ _ _ _ _ _ _ _ _ _ _ _ c.loop-t.invariant _ _ c.advance-fixed.ensures _ c.demand_of.ensures
+    c.loop-t-test.true (omega (arith, c.if-t-work.false)) (omega (arith, c.if-margin-least.false))
 
 pub returns : goal.returns
 returns c =
@@ -90,7 +78,6 @@ returns c =
     let times = c.times_of-times.result in
     let a = c.args in
     let begun : Running (counted_tasks a.tasks a.count) times.lengths times.periods times.dues 0 0 = running_start _ _ c.requires.proper_tasks _ c.times_of-times.ensures in
-    let s = c.before.before.before.before.before.before.before.before in
-    λ g sound is lines. subst (Shows g (counted_tasks s.args.tasks s.args.count) s.args.horizon) (sym c.smallest.ensures)
+    λ g sound is lines. subst (Shows g (counted_tasks c.args.tasks c.args.count) c.args.horizon) (sym c.smallest.ensures)
     (looking_done _ _ _ _ _ _ _ _ _ _ _ _ c.loop-t.invariant c.loop-t-test.false _ (counted) (begun)
-    g (table_decides Interval g sound _ is _ _ _ s.requires.horizon_le_longest_time lines) (λ u h. demand_there g sound _ is _ _ lines u (omega arith)))
+    g (table_decides Interval g sound _ is _ _ _ c.requires.horizon_le_longest_time lines) (λ u h. demand_there g sound _ is _ _ lines u (omega arith)))

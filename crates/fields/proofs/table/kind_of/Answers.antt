@@ -19,15 +19,15 @@ pub returns-in-5 : goal.returns-in-5
 unfolding pick
 returns-in-5 c = rw c.in-5.is
 
-pub returns-in-0 : goal.returns-in-0
-unfolding pick
-returns-in-0 c = rw c.in-1.keys6
-
 pub returns-in-1 : goal.returns-in-1
 returns-in-1 c = search judging
 
 pub returns-in-128-to-255 : goal.returns-in-128-to-255
 returns-in-128-to-255 c = search judging depth 9
+
+pub returns-in-0 : goal.returns-in-0
+unfolding pick
+returns-in-0 c = rw c.in-0.in-0-own.keys6
 
 pub returns-in-0-2 : goal.returns-in-0-2
 returns-in-0-2 c = search judging depth 9

@@ -8,4 +8,4 @@ use Rattle.overruns.proofs.sweep.over_at.Goals as goal
 pub returns : goal.returns
 returns c =
     let a = c.args in
-    ap (λ (d : ℕ). ltb a.t (d + a.fixed)) c.demand_of_lem.ensures
+    ap (λ (d : ℕ). ltb a.t (d + a.fixed)) c.demand_of.ensures

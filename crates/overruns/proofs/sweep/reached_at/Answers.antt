@@ -23,4 +23,4 @@ shortest_of-requires c =
 pub returns : goal.returns
 returns c =
     let a = c.args in
-    rw (le-ltb a.t a.fixed c.if-whole-fixed.false) (ap (λ (x : ℕ). leb x a.t) c.shortest_of_lem.ensures)
+    rw (le-ltb a.t a.fixed c.if-whole-fixed.false) (ap (λ (x : ℕ). leb x a.t) c.shortest_of.ensures)

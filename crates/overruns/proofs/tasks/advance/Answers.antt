@@ -8,6 +8,7 @@ use lib.ListN.{length}
 use mathlib.Core.Logic.{⊎_elim}
 use mathlib.Core.Path.{◌≡◌}
 use native.Mathlib.Omega.{arith}
+use Rattle.overruns.proofs.tasks.advance.Goals.{then-dues-i, else-dues-i}
 use Rattle.overruns.proofs.tasks.advance.Goals as goal
 
 pub loop-i-init : goal.loop-i-init
@@ -55,18 +56,16 @@ bounds-dues-i-then-dues-i c =
 pub loop-i-preserved : goal.loop-i-preserved
 loop-i-preserved c =
     let few : c.loop-i.i < task_limit = omega (arith, c.requires.count_le_task_limit) in
-    let i = c.before.before in
-    let l = i.loop-i in
-    let s = i.before.before in
-    let inside : l.i < length l.dues = omega (arith, few, l.invariant.2.done.same_length, s.requires.dues_len) in
-    ⊎_elim
-    (λ w. (
-      omega arith,
-      omega (arith, w.6, w.2.ensures.1, l.invariant.1),
-      rw (w.5, w.6, w.2.ensures.0, w.4.ensures.0) (advancing_now _ _ _ _ _ _ _ l.invariant.2 w.0.taken inside),
-    ))
-    (λ w. (omega arith, omega (arith, w.2, l.invariant.1), rw (w.1, w.2) (advancing_later _ _ _ _ _ _ _ l.invariant.2 w.0.left)))
-    c.if-dues-i.branch
+    let l = c.loop-i in
+    let inside : l.i < length l.dues = omega (arith, few, l.invariant.2.done.same_length, c.requires.dues_len) in
+    elim c.if-dues-i.branch [
+      then-dues-i w ↦ (
+        omega arith,
+        omega (arith, w.work-is, w.wide-work.ensures.1, l.invariant.1),
+        rw (w.dues-is, w.work-is, w.wide-work.ensures.0, w.wide.ensures.0) (advancing_now _ _ _ _ _ _ _ l.invariant.2 w.if-dues-i.true inside),
+      )
+    | else-dues-i w ↦ (omega arith, omega (arith, w.work-is, l.invariant.1), rw (w.dues-is, w.work-is) (advancing_later _ _ _ _ _ _ _ l.invariant.2 w.if-dues-i.false))
+    ]
 
 pub returns : goal.returns
 returns c =

@@ -41,7 +41,7 @@ loop-i-preserved c =
     let s = c.before.before.before.before in
     let l = c.loop-i in (
       omega arith,
-      ap₂ (λ (m n : ℕ). m + n) l.invariant.1 c.fixed_of-sum.ensures.0 ∙ sym (sum_more s.args.t1 s.args.count s.requires.proper_tasks l.i s.args.t c.loop-i-test.true),
+      ap₂ (λ (m n : ℕ). m + n) l.invariant.1 c.fixed_of-sum.ensures.0 ∙ sym (sum_more s.args.tasks s.args.count s.requires.proper_tasks l.i s.args.t c.loop-i-test.true),
       omega (arith, l.invariant.2, c.fixed_of-sum.ensures.1),
     )
 
@@ -50,4 +50,4 @@ returns c =
     let s = c.before.before in
     let l = c.loop-i in
     let all : l.i ≡ s.args.count = omega arith in
-    l.invariant.1 ∙ ap (λ (i : ℕ). fixed_sum (take i (counted_tasks s.args.t1 s.args.count)) s.args.t) all ∙ sum_all s.args.t1 s.args.count s.requires.proper_tasks s.args.t
+    l.invariant.1 ∙ ap (λ (i : ℕ). fixed_sum (take i (counted_tasks s.args.tasks s.args.count)) s.args.t) all ∙ sum_all s.args.tasks s.args.count s.requires.proper_tasks s.args.t

@@ -10,7 +10,6 @@ use Rattle.putting.proofs.kinds.put_mode.Goals as goal
 
 pub put_field-requires : goal.put_field-requires
 unfolding tag_of content_of
-unfolding content_of
 put_field-requires c =
     let mode = c.args.mode in
     let lent : First c.short_size-count.result (mode.boundary.0 ∷ mode.length.0 ∷ mode.fallback.0 ∷ []) (mode_numbers mode) =
@@ -21,7 +20,6 @@ put_field-requires c =
 
 pub returns : goal.returns
 unfolding tag_of content_of
-unfolding content_of
 returns c =
     let mode = c.args.mode in
     let lent : First c.short_size-count.result (mode.boundary.0 ∷ mode.length.0 ∷ mode.fallback.0 ∷ []) (mode_numbers mode) =

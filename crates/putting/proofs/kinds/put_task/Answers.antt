@@ -10,7 +10,6 @@ use Rattle.putting.proofs.kinds.put_task.Goals as goal
 
 pub put_field-requires : goal.put_field-requires
 unfolding tag_of content_of
-unfolding content_of
 put_field-requires c =
     let task = c.args.task in
     let lent : First c.short_size-count.result (task.length.0 ∷ task.period.0 ∷ task.deadline.0 ∷ task.jitter.0 ∷ []) (task_numbers task) =
@@ -21,7 +20,6 @@ put_field-requires c =
 
 pub returns : goal.returns
 unfolding tag_of content_of
-unfolding content_of
 returns c =
     let task = c.args.task in
     let lent : First c.short_size-count.result (task.length.0 ∷ task.period.0 ∷ task.deadline.0 ∷ task.jitter.0 ∷ []) (task_numbers task) =

@@ -60,7 +60,7 @@ returns-in-RefusedTag c = rw c.in-RefusedTag.is refl
 
 pub returns-in-LabelField : goal.returns-in-LabelField
 unfolding with_field
-returns-in-LabelField c = rw c.in-LabelField.is c.with_label_lem.ensures
+returns-in-LabelField c = rw c.in-LabelField.is c.with_label.ensures
 
 pub returns-in-ModeField : goal.returns-in-ModeField
 unfolding with_field
@@ -68,11 +68,11 @@ returns-in-ModeField c = rw c.in-ModeField.is (c.with_mode.ensures ∙ ap (λ v.
 
 pub returns-in-RowField : goal.returns-in-RowField
 unfolding with_field
-returns-in-RowField c = rw c.in-RowField.is (c.with_row_lem.ensures ∙ ap (λ v. head_of (with_row (sheet_from c.args.head []) v)) c.row_at.ensures)
+returns-in-RowField c = rw c.in-RowField.is (c.with_row.ensures ∙ ap (λ v. head_of (with_row (sheet_from c.args.head []) v)) c.row_at.ensures)
 
 pub returns-in-TaskField : goal.returns-in-TaskField
 unfolding with_field
-returns-in-TaskField c = rw c.in-TaskField.is (c.with_task_lem.ensures ∙ ap (λ v. head_of (with_task (sheet_from c.args.head []) v)) c.task_at.ensures)
+returns-in-TaskField c = rw c.in-TaskField.is (c.with_task.ensures ∙ ap (λ v. head_of (with_task (sheet_from c.args.head []) v)) c.task_at.ensures)
 
 pub returns-in-EndField : goal.returns-in-EndField
 unfolding with_field

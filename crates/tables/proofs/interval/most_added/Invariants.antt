@@ -12,7 +12,7 @@ use Rattle.tables.proofs.interval.most_added.Given as goal
 
 abbrev pub invariant-loop-rest : goal.invariant-loop-rest
 invariant-loop-rest l =
-    Passing (λ j l.most. max l.most (added_at l.n l.cells l.s (gap_to l.bytes l.followers l.gaps j) j)) 0 l.followers l.gaps l.rest l.place l.most
+    Passing (λ j most'. max most' (added_at l.n l.cells l.s (gap_to l.bytes l.followers l.gaps j) j)) 0 l.followers l.gaps l.rest l.place l.most
 
 abbrev pub decreases-loop-rest : goal.decreases-loop-rest
 decreases-loop-rest l = l.rest
