@@ -26,13 +26,6 @@ use Rattle.printing.specs.Refusals.{bad_interval, RoomToInterval, RoomToAmount}
 use Rattle.printing.proofs.Refusals.{with_room, shown_inside}
 use Rattle.telling.specs.Told.{is_refused, CurveOf, CurveTold, DemandTold, MarginTold, ShortestTold}
 
--- a verdict that is no refusal has its curve
-pub curve_there : (bytes : List ℕ) (horizon : ℕ) (cells : List ℕ) (answer : VerdictAnswer) → is_refused answer ≡ false → CurveTold bytes horizon cells answer
-    → (v : Verdict) × CurveOf bytes horizon cells v
-curve_there bytes horizon cells verdict-case.Holds there told = (holds, told)
-curve_there bytes horizon cells (verdict-case.Overrun t) there told = (overrun t, told)
-curve_there bytes horizon cells (verdict-case.Refused number place) there told = absurd (true≢false there)
-
 module _ (bytes : List ℕ) (are : Bytes bytes) where
   module _ (t : ℕ) (cells : List ℕ) (enough : RoomToInterval bytes t (length cells)) where
     pub demand_told : (area : List ℕ) (answer : DemandAnswer) (cells' area' : List ℕ) → longest_time ≤ length area

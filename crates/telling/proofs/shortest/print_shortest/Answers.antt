@@ -7,5 +7,6 @@ use Rattle.telling.proofs.shortest.print_shortest.Goals as goal
 
 pub print_none-requires : goal.print_none-requires
 print_none-requires g c =
-    told_none _ (λ i. omega (arith, c.type_inv.bytes i)) _ _ _
-    (subst (ShortestTold _ _) c.in-Refused.is c.requires) c.if-number-eq14.true
+    let refused = c.in-Refused in
+    told_none _ (λ i. omega (arith, c.type_inv.bytes i)) _ refused.number refused.place
+    (subst (ShortestTold _ _) refused.is c.requires) (omega arith)
