@@ -1,7 +1,7 @@
 // The reader's rules on values that a caller lends as columns, tried before a byte of them is written.
 #![tactic(auto)]
 
-mod modes;
+mod mode_columns;
 mod rows;
 mod tasks;
 
@@ -11,7 +11,7 @@ ghost use Rattle.written.specs.Judging.{entry_rules, end_rules, values_rules};
 ghost use Rattle.written.specs.Values.{LabelEntry, CutEntry, values_from};
 
 use fields::values::{Sheet, Tally};
-use modes::modes_number;
+use mode_columns::modes_number;
 use rows::{rows_number, unknown_among};
 use rules::common_number;
 use rules::counting::count_label;

@@ -42,7 +42,7 @@ pub enum ExplainAnswer {
 }
 
 // An enum holds no array, so the demand of each fixed task at the overrun stands beside the answer: in file order, 0 past the last task, and all 0 in every answer but `Fails`.
-#[derive(Drop)]
+#[derive(Clone, Copy)]
 pub struct Explained {
     pub answer: ExplainAnswer,
     pub demands: [u64; Sheet::TASKS],

@@ -9,7 +9,7 @@ use fields::values::Sheet;
 
 // `number` is 0, or the refusal's number with its place, and then all else is 0. From `overrun` to `count` all is 0 where nothing is overrun, and `margin` and `interval` are 0 where something is.
 #[repr(C)]
-#[derive(Drop)]
+#[derive(Clone, Copy)]
 pub struct ExplainForC {
     pub number: u8,
     pub place: usize,

@@ -37,7 +37,7 @@ module _ (T : Ended) where
     pub one : (κs : Lfts T.signature.lifetimes) (args : Args T.signature κs) (x y : Res T.signature κs) (s t : AtExit T κs) → allows κs args x s → allows κs args y t → has κs x s ≡ has κs y t
 
 -- of a new reader, its bytes and its place
-pub new_one : Determined new.ended (λ M 𝓤. new.clauses 𝓤) (λ κs x s. x)
+pub new_one : Determined new.ended (λ M 𝓤 𝓛. new.clauses 𝓛) (λ κs x s. x)
 new_one =
     record {
       allows = _;
@@ -49,7 +49,7 @@ new_one =
 abbrev AfterStep : Type 0
 AfterStep = Step × Reader
 
-pub step_one : Determined step.ended {A = AfterStep} (λ M 𝓤. step.clauses 𝓤) (λ κs x s. (x, s.0.now))
+pub step_one : Determined step.ended {A = AfterStep} (λ M 𝓤 𝓛. step.clauses 𝓛) (λ κs x s. (x, s.0.now))
 step_one =
     record {
       allows = _;

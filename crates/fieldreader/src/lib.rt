@@ -7,7 +7,7 @@ ghost use Rattle.fieldreader.specs.Moving.{step_at, stepped};
 
 use fields::reader::{Step, field_at};
 
-#[derive(Drop)]
+#[derive(Clone, Copy)]
 pub struct Reader<'a> {
     pub bytes: &'a [u8],
     pub at: usize,

@@ -117,7 +117,7 @@ impl Tally {
 }
 
 // The arrays hold zeros past what the tally counts.
-#[derive(Drop)]
+#[derive(Clone, Copy)]
 pub struct Sheet {
     pub label: Part,
     pub tally: Tally,

@@ -11,7 +11,7 @@ use fields::units::Ticks;
 use fields::values::{Sheet, Task};
 
 // The times of the fixed tasks as numbers, since only arrays of numbers are lent: each task's length and period, and when its next job falls due.
-#[derive(Drop)]
+#[derive(Clone, Copy)]
 pub struct Times {
     pub lengths: [u16; Sheet::TASKS],
     pub periods: [u16; Sheet::TASKS],

@@ -22,7 +22,7 @@ pub enum Answer {
 }
 
 // The answer, with the sheet's values beside it: those of an empty sheet where it is refused.
-#[derive(Drop)]
+#[derive(Clone, Copy)]
 pub struct Judged {
     pub answer: Answer,
     pub sheet: Sheet,
@@ -38,7 +38,7 @@ pub struct Head {
 }
 
 // The answer, with the sheet's values beside it as in `Judged`, but for the rows.
-#[derive(Drop)]
+#[derive(Clone, Copy)]
 pub struct Outline {
     pub answer: Answer,
     pub head: Head,

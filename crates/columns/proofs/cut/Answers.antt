@@ -1,6 +1,5 @@
 -- `cut` meets its contract: a field without content has only the first rules.
 use Rattle.written.specs.Judging.{entry_rules}
-use borrow.Author.Rules.{rules}
 use mathlib.Core.Path.{refl}
 use Rattle.columns.proofs.cut.Goals as goal
 

@@ -5,7 +5,6 @@ use Rattle.rules.specs.Rules.{common_rules}
 use Rattle.written.specs.Judging.{unknown_among, end_rules}
 use mathlib.Core.Bool.{false}
 use mathlib.Core.List.{[], ◌∷◌}
-use borrow.Author.Rules.{rules}
 use Rattle.columns.proofs.end_number.Goals as goal
 
 pub returns-then-number-ne0 : goal.returns-then-number-ne0

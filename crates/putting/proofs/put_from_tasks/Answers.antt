@@ -4,7 +4,6 @@ use Rattle.putting.proofs.Behind.{put_behind, room_first, room_behind}
 use Rattle.putting.specs.Putting.{from_tasks}
 use Rattle.written.specs.Values.{task_entries}
 use Rattle.written.specs.Written.{field, fields_of}
-use borrow.Author.Rules.{rules}
 use lib.ListN.{length, length-take, length-drop}
 use mathlib.Core.List.{[]}
 use native.Mathlib.Omega.{arith}
@@ -27,7 +26,7 @@ slice_bounds-put_head-count c =
     let fits : c.put_tasks-size.result + 3 ≤ length c.put_tasks-size.new.out =
     let a = c.args in
     let call = c.put_tasks-size in
-    room_behind _ (fields_of (task_entries a.lengths.now a.periods.now a.deadlines.now a.jitters.now)) (field 5 []) a.out.now call.new.out call.ensures.value call.auto.0 c.requires.jitters_in_bounds in omega (arith, fits)
+    room_behind _ (fields_of (task_entries a.lengths.now a.periods.now a.deadlines.now a.jitters.now)) (field 5 []) a.out.now call.new.out call.ensures.value call.auto.out c.requires.jitters_in_bounds in omega (arith, fits)
 
 pub slice_bounds-put_head-start : goal.slice_bounds-put_head-start
 unfolding from_tasks
@@ -35,7 +34,7 @@ slice_bounds-put_head-start c =
     let fits : c.put_tasks-size.result + 3 ≤ length c.put_tasks-size.new.out =
     let a = c.args in
     let call = c.put_tasks-size in
-    room_behind _ (fields_of (task_entries a.lengths.now a.periods.now a.deadlines.now a.jitters.now)) (field 5 []) a.out.now call.new.out call.ensures.value call.auto.0 c.requires.jitters_in_bounds in omega (arith, fits)
+    room_behind _ (fields_of (task_entries a.lengths.now a.periods.now a.deadlines.now a.jitters.now)) (field 5 []) a.out.now call.new.out call.ensures.value call.auto.out c.requires.jitters_in_bounds in omega (arith, fits)
 
 pub put_head-requires : goal.put_head-requires
 unfolding from_tasks
@@ -43,4 +42,5 @@ put_head-requires c =
     let fits : c.put_tasks-size.result + 3 ≤ length c.put_tasks-size.new.out =
     let a = c.args in
     let call = c.put_tasks-size in
-    room_behind _ (fields_of (task_entries a.lengths.now a.periods.now a.deadlines.now a.jitters.now)) (field 5 []) a.out.now call.new.out call.ensures.value call.auto.0 c.requires.jitters_in_bounds in (simp (length-take, length-drop) (omega (arith, fits)), omega arith)
+    room_behind _ (fields_of (task_entries a.lengths.now a.periods.now a.deadlines.now a.jitters.now)) (field 5 []) a.out.now call.new.out call.ensures.value call.auto.out c.requires.jitters_in_bounds in
+    record { in_bounds = simp (length-take, length-drop) (omega (arith, fits)); size_bound = omega arith }

@@ -1,17 +1,16 @@
 -- `bands` meets its contract: each turn counts the band of its mode, and those that are left make up all of them.
-use Prim.Native.Nat.{ℕ, ◌+◌, ◌-◌, ◌≤◌, ◌<◌}
+use Prim.Native.Nat.{ℕ, ◌+◌, ◌≤◌, ◌<◌}
 use Rattle.fields.specs.Deciding.{pick}
 use Rattle.written.proofs.EntriesFrom.{number_there}
 use Rattle.written.specs.Judging.{band_count}
-use borrow.Author.Rules.{rules}
 use borrow.Author.Tests.{eq-eqb, ne_eqb}
 use lib.Dec.{eqb}
 use lib.ListN.{length, get_or, drop, drop_of_length-le}
 use mathlib.Core.List.{List}
-use mathlib.Core.Logic.{⊎_elim}
 use mathlib.Core.Path.{◌≡◌, ◌∙◌, refl}
 use native.Mathlib.Omega.{arith}
 use Rattle.writer.proofs.bands.Goals as goal
+use Rattle.writer.proofs.bands.Goals.{then-fallbacks-number, else-fallbacks-number}
 
 pub loop-number-init : goal.loop-number-init
 loop-number-init c = (omega arith, omega arith, omega arith)
@@ -33,13 +32,11 @@ loop-number-preserved c =
     let l = c.loop-number in
     let a = c.args in
     let counted : (c.if-fallbacks-number.count ≡ l.count + pick (eqb (get_or a.fallbacks.now l.number 0) (get_or a.boundaries.now l.number 0)) 0 1) × (c.if-fallbacks-number.count ≤ l.count + 1) =
-    ⊎_elim
-    (λ way. (way.1 ∙ rw (ne_eqb _ _ way.0.taken) refl, omega (arith, way.1)))
-    (λ way. (way.1 ∙ rw (eq-eqb _ _ way.0.left) (omega arith), omega (arith, way.1)))
-    c.if-fallbacks-number.branch in
-    let l = c.loop-number in
-    let s = c.before.before.before.before.before in
-    let next = from-here s.args.boundaries.now s.args.fallbacks.now l.number (omega arith) (omega (arith, s.requires)) in
+    elim c.if-fallbacks-number.branch [
+      | then-fallbacks-number w ↦ (w.count-is ∙ rw (ne_eqb _ _ w.if-fallbacks-number.true) refl, omega arith)
+      | else-fallbacks-number w ↦ (w.count-is ∙ rw (eq-eqb _ _ w.if-fallbacks-number.false) (omega arith), omega arith)
+    ] in
+    let next = from-here c.args.boundaries.now c.args.fallbacks.now l.number (omega arith) (omega (arith, c.requires)) in
     (omega arith, omega (arith, counted), omega (arith, counted, next, l.invariant.2))
 
 pub returns : goal.returns

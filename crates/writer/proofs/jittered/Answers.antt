@@ -1,17 +1,16 @@
 -- `jittered` meets its contract: each turn counts the jitter of its task where it is not 0, and those that are left make up all of them.
-use Prim.Native.Nat.{ℕ, ◌+◌, ◌-◌, ◌≤◌, ◌<◌}
+use Prim.Native.Nat.{ℕ, ◌+◌, ◌≤◌, ◌<◌}
 use Rattle.fields.specs.Deciding.{pick}
 use Rattle.written.proofs.EntriesFrom.{number_there}
 use Rattle.written.specs.Judging.{jitter_count}
-use borrow.Author.Rules.{rules}
 use borrow.Author.Tests.{eq-eqb, ne_eqb}
 use lib.Dec.{eqb}
 use lib.ListN.{length, get_or, drop, drop_of_length-le}
 use mathlib.Core.List.{List}
-use mathlib.Core.Logic.{⊎_elim}
 use mathlib.Core.Path.{◌≡◌, ◌∙◌, refl}
 use native.Mathlib.Omega.{arith}
 use Rattle.writer.proofs.jittered.Goals as goal
+use Rattle.writer.proofs.jittered.Goals.{then-jitters-number-ne0, else-jitters-number-ne0}
 
 pub loop-number-init : goal.loop-number-init
 loop-number-init c = (omega arith, omega arith, omega arith)
@@ -32,11 +31,10 @@ loop-number-preserved c =
     let l = c.loop-number in
     let a = c.args in
     let counted : (c.if-jitters-number-ne0.count ≡ l.count + pick (eqb (get_or a.jitters.now l.number 0) 0) 0 1) × (c.if-jitters-number-ne0.count ≤ l.count + 1) =
-    ⊎_elim
-    (λ way. (way.1 ∙ rw (ne_eqb _ _ way.0.taken) refl, omega (arith, way.1)))
-    (λ way. (way.1 ∙ rw (eq-eqb _ _ way.0.left) (omega arith), omega (arith, way.1)))
-    c.if-jitters-number-ne0.branch in
-    let l = c.loop-number in
+    elim c.if-jitters-number-ne0.branch [
+      | then-jitters-number-ne0 w ↦ (w.count-is ∙ rw (ne_eqb _ _ w.if-jitters-number-ne0.true) refl, omega arith)
+      | else-jitters-number-ne0 w ↦ (w.count-is ∙ rw (eq-eqb _ _ w.if-jitters-number-ne0.false) (omega arith), omega arith)
+    ] in
     let next = from-here c.args.jitters.now l.number (omega arith) in
     (omega arith, omega (arith, counted), omega (arith, counted, next, l.invariant.2))
 

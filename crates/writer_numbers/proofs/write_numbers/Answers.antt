@@ -1,5 +1,4 @@
 -- `write_numbers` meets its contract, case by case.
-use borrow.Author.Rules.{rules}
 use mathlib.Core.Path.{ap, sym}
 use Rattle.writer_numbers.specs.Flat.{flat_written}
 use Rattle.writer_numbers.proofs.write_numbers.Goals as goal

@@ -1,5 +1,4 @@
 -- `look_at` meets its contract. What is seen so far is what the gaps passed have.
-use Prim.Native.Nat.{◌-◌, ◌≤◌}
 use mathlib.Core.Path.{◌≡◌, refl}
 use lib.Dec.{ltb}
 use lib.ListN.{length, get_or}

@@ -1,12 +1,8 @@
 use Prim.Native.Nat.{◌-◌, ◌≤◌}
-use mathlib.Core.Path.{◌≡◌, refl}
+use mathlib.Core.Path.{◌≡◌}
 use lib.Dec.{ltb}
 use lib.ListN.{length, get_or}
-use native.Mathlib.Omega.{arith}
-use borrow.Author.Rules.{rules}
 use Rattle.fields.specs.Deciding.{any_from}
-use Rattle.written.specs.Judging.{one_shorter}
-use Rattle.written.proofs.Alike.{any_further}
 use Rattle.columns.proofs.rows.look_at.Given as goal
 
 abbrev pub invariant-loop-passed : goal.invariant-loop-passed

@@ -1,6 +1,5 @@
 -- `one_row_number` meets its contract: the common rules come first, and a look at the gaps answers what the others ask of them.
 use mathlib.Core.Path.{◌≡◌}
-use borrow.Author.Rules.{rules}
 use Rattle.fields.proofs.Deciding.{stop, pass}
 use Rattle.rules.specs.Rules.{common_rules, row_rules}
 use Rattle.written.specs.Judging.{one_shorter, entry_rules}

@@ -1,5 +1,5 @@
 -- `rows_number` meets its contract. The rows that are left, with the gaps that are left, decide as all of them do.
-use Prim.Native.Nat.{◌+◌, ◌-◌, ◌≤◌, min}
+use Prim.Native.Nat.{◌+◌, ◌≤◌}
 use Rattle.columns.proofs.Onward.{Onward, onward_start, onward_next, onward_stop, onward_end, onward_cut}
 use Rattle.columns.proofs.Told.{all_over, not_all_over}
 use Rattle.sets.specs.Sets.{width}
@@ -8,13 +8,11 @@ use Rattle.written.specs.Values.{row_entries}
 use Rattle.written.proofs.EntriesKept.{entry_kept, row_says}
 use Rattle.written.proofs.EntriesFrom.{rows_from, row_between, rows_next, rows_end, rows_part}
 use borrow.Author.Rules.{rules}
-use borrow.Author.Tests.{ltb-true, ltb-false}
 use lib.ListN.{length, length-take}
 use mathlib.Core.List.{◌∷◌}
-use mathlib.Core.Logic.{⊎_elim}
-use mathlib.Core.Path.{◌≡◌}
 use native.Mathlib.Omega.{arith}
 use Rattle.columns.proofs.rows.rows_number.Goals as goal
+use Rattle.columns.proofs.rows.rows_number.Goals.{then-unlike-via-then-unlike, then-unlike-via-else-unlike+then-from-gaps}
 
 pub loop-at-init : goal.loop-at-init
 loop-at-init c = (search rules, rw (← c.least.ensures) c.least-whole.ensures, search rules, onward_start _ _)
@@ -81,10 +79,10 @@ returns-then-unlike c =
     let a = c.args in
     let parted =
     rows_part a.speeds.now a.deadlines.now a.sets.now a.gaps.now l.at l.from (omega arith)
-    (λ no-speed no-deadline no-set no_gap. ⊎_elim
-    (λ unlike. not_all_over _ _ _ _ _ c.left_over-unlike.ensures unlike.taken no-speed no-deadline no-set)
-    (λ gap. omega (arith, ltb-true l.from (length a.gaps.now) gap.1.taken))
-    c.if-unlike.branch) in
+    (λ no-speed no-deadline no-set no_gap. elim c.then-unlike.branch [
+      | then-unlike-via-then-unlike w ↦ not_all_over _ _ _ _ _ c.left_over-unlike.ensures w.if-unlike.true no-speed no-deadline no-set
+      | then-unlike-via-else-unlike+then-from-gaps w ↦ omega arith
+    ]) in
     onward_cut _ _ _ 3 _ c.cut.ensures.0 c.cut.ensures.1 (rw parted at l.invariant.3)
 
 pub returns : goal.returns
@@ -92,5 +90,5 @@ returns c =
     let l = c.loop-at in
     let a = c.args in
     let none = all_over _ _ _ _ _ c.left_over-unlike.ensures c.if-unlike.false in
-    let over = rows_end a.speeds.now a.deadlines.now a.sets.now a.gaps.now l.at l.from none.0 none.1 none.2 (ltb-false _ _ c.if-from-gaps.false) in
+    let over = rows_end a.speeds.now a.deadlines.now a.sets.now a.gaps.now l.at l.from none.0 none.1 none.2 c.if-from-gaps.false in
     onward_end _ _ _ (rw over at l.invariant.3)

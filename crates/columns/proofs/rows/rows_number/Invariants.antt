@@ -1,18 +1,9 @@
-use Prim.Native.Nat.{◌+◌, ◌-◌, ◌≤◌, min}
-use Rattle.columns.proofs.Onward.{Onward, onward_start, onward_next, onward_stop, onward_end, onward_cut}
-use Rattle.columns.proofs.Told.{all_over, not_all_over}
-use Rattle.sets.specs.Sets.{width}
-use Rattle.written.specs.Judging.{count_entry}
+use Prim.Native.Nat.{◌-◌, ◌≤◌, min}
+use Rattle.columns.proofs.Onward.{Onward}
 use Rattle.written.specs.Values.{row_entries}
-use Rattle.written.proofs.EntriesKept.{entry_kept, row_says}
-use Rattle.written.proofs.EntriesFrom.{rows_from, row_between, rows_next, rows_end, rows_part}
-use borrow.Author.Rules.{rules}
-use borrow.Author.Tests.{ltb-true, ltb-false}
-use lib.ListN.{length, length-take}
-use mathlib.Core.List.{◌∷◌}
-use mathlib.Core.Logic.{⊎_elim}
+use Rattle.written.proofs.EntriesFrom.{rows_from}
+use lib.ListN.{length}
 use mathlib.Core.Path.{◌≡◌}
-use native.Mathlib.Omega.{arith}
 use Rattle.columns.proofs.rows.rows_number.Given as goal
 
 abbrev pub invariant-loop-at : goal.invariant-loop-at

@@ -1,5 +1,4 @@
 -- `set_of` meets its contract: past the end a number has the empty set.
-use borrow.Author.Rules.{rules}
 use lib.ListN.{get_or-eq_default}
 use mathlib.Core.Path.{sym}
 use Rattle.columns.proofs.rows.set_of.Goals as goal

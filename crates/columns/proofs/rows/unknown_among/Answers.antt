@@ -1,14 +1,8 @@
 -- `unknown_among` meets its contract. The sets that are left decide as all of them do.
-use Prim.Native.Nat.{◌-◌}
 use Rattle.fields.proofs.Deciding.{told, any_hit, any_miss, any_none}
-use Rattle.fields.specs.Deciding.{any_from}
-use Rattle.rules.specs.Rules.{unknown_in}
 use Rattle.written.specs.Judging.{unknown_among}
-use borrow.Author.Rules.{rules}
-use lib.ListN.{get_or}
-use mathlib.Core.Path.{◌≡◌, ◌∙◌, refl, sym}
+use mathlib.Core.Path.{◌∙◌, refl, sym}
 use native.Mathlib.Nat.{sub-zero}
-use native.Mathlib.Omega.{arith}
 use Rattle.columns.proofs.rows.unknown_among.Goals as goal
 
 pub loop-number-init : goal.loop-number-init

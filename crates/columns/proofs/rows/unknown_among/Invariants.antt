@@ -1,13 +1,9 @@
 use Prim.Native.Nat.{◌-◌}
-use Rattle.fields.proofs.Deciding.{told, any_hit, any_miss, any_none}
 use Rattle.fields.specs.Deciding.{any_from}
 use Rattle.rules.specs.Rules.{unknown_in}
 use Rattle.written.specs.Judging.{unknown_among}
-use borrow.Author.Rules.{rules}
 use lib.ListN.{get_or}
-use mathlib.Core.Path.{◌≡◌, ◌∙◌, refl, sym}
-use native.Mathlib.Nat.{sub-zero}
-use native.Mathlib.Omega.{arith}
+use mathlib.Core.Path.{◌≡◌}
 use Rattle.columns.proofs.rows.unknown_among.Given as goal
 
 abbrev pub invariant-loop-number : goal.invariant-loop-number

@@ -2,7 +2,6 @@
 use Rattle.fields.proofs.Deciding.{pass, stop}
 use Rattle.rules.specs.Rules.{common_rules}
 use Rattle.written.specs.Judging.{entry_rules}
-use borrow.Author.Rules.{rules}
 use Rattle.columns.proofs.tasks.one_task_number.Goals as goal
 
 pub returns-then-number-ne0 : goal.returns-then-number-ne0

@@ -1,13 +1,9 @@
 -- `tasks_number` meets its contract. The fixed tasks that are left decide as all of them do.
-use Prim.Native.Nat.{◌+◌, ◌-◌, ◌≤◌, min}
+use Prim.Native.Nat.{◌+◌}
 use native.Mathlib.Omega.{arith}
-use mathlib.Core.Logic.{⊎_elim}
-use mathlib.Core.Path.{◌≡◌}
 use mathlib.Core.List.{◌∷◌}
-use lib.ListN.{length}
 use borrow.Author.Count.{falls}
 use borrow.Author.Rules.{rules}
-use borrow.Author.Tests.{ltb-true, ltb-false}
 use Rattle.written.specs.Judging.{count_entry}
 use Rattle.written.specs.Values.{task_entries}
 use Rattle.written.proofs.EntriesFrom.{task_among, tasks_from, tasks_next, tasks_end, tasks_part}
@@ -15,6 +11,7 @@ use Rattle.written.proofs.EntriesKept.{entry_kept, task_says}
 use Rattle.columns.proofs.Onward.{Onward, onward_start, onward_next, onward_stop, onward_end, onward_cut}
 use Rattle.columns.proofs.Told.{all_over, not_all_over}
 use Rattle.columns.proofs.tasks.tasks_number.Goals as goal
+use Rattle.columns.proofs.tasks.tasks_number.Goals.{then-unlike-via-then-unlike, then-unlike-via-else-unlike+then-at-jitters}
 
 pub loop-at-init : goal.loop-at-init
 loop-at-init c = (search rules, rw (← c.least-shorter.ensures, ← c.least.ensures) c.least-whole.ensures, onward_start _ _)
@@ -61,10 +58,10 @@ returns-then-unlike c =
     let a = c.args in
     let parted =
     tasks_part a.lengths.now a.periods.now a.deadlines.now a.jitters.now l.at (λ one other third last. omega arith)
-    (λ no_length no-period no-deadline no_jitter. ⊎_elim
-    (λ unlike. not_all_over _ _ _ _ _ c.left_over-unlike.ensures unlike.taken no_length no-period no-deadline)
-    (λ jitter. omega (arith, ltb-true l.at (length a.jitters.now) jitter.1.taken))
-    c.if-unlike.branch) in
+    (λ no_length no-period no-deadline no_jitter. elim c.then-unlike.branch [
+      | then-unlike-via-then-unlike w ↦ not_all_over _ _ _ _ _ c.left_over-unlike.ensures w.if-unlike.true no_length no-period no-deadline
+      | then-unlike-via-else-unlike+then-at-jitters w ↦ omega arith
+    ]) in
     onward_cut _ _ _ 4 _ c.cut.ensures.0 c.cut.ensures.1 (rw parted at l.invariant.2)
 
 pub returns : goal.returns
@@ -72,7 +69,7 @@ returns c =
     let l = c.loop-at in
     let a = c.args in
     let none = all_over _ _ _ _ _ c.left_over-unlike.ensures c.if-unlike.false in
-    let over = tasks_end a.lengths.now a.periods.now a.deadlines.now a.jitters.now l.at none.0 none.1 none.2 (ltb-false _ _ c.if-at-jitters.false) in
+    let over = tasks_end a.lengths.now a.periods.now a.deadlines.now a.jitters.now l.at none.0 none.1 none.2 c.if-at-jitters.false in
     onward_end _ _ _ (rw over at l.invariant.2)
 
 pub loop-at-smaller : goal.loop-at-smaller

@@ -2,7 +2,6 @@
 use Rattle.putting.proofs.FirstNumbers.{First, first_there, first_fit, first_put}
 use Rattle.written.proofs.ShortNumbers.{mode_long, numbers_taken}
 use Rattle.written.specs.Written.{mode_numbers, tag_of, content_of}
-use borrow.Author.Rules.{rules}
 use lib.ListN.{length-take}
 use mathlib.Core.List.{[], ◌∷◌}
 use native.Mathlib.Omega.{arith}
@@ -13,27 +12,23 @@ unfolding tag_of content_of
 put_field-requires c =
     let mode = c.args.mode in
     let lent : First c.short_size-count.result (mode.boundary.0 ∷ mode.length.0 ∷ mode.fallback.0 ∷ []) (mode_numbers mode) =
-    let mode = c.args.mode in
     rw c.short_size-count.ensures (numbers_taken mode, mode_long mode) in
-    let s = c.before.before in
-    first_fit _ _ _ (lent) 2 _ s.requires (omega (arith, first_there _ _ _ (lent)))
+    let fit = first_fit _ _ _ lent 2 _ c.requires (omega (arith, first_there _ _ _ lent)) in
+    record { numbers_in_bounds = fit.0; numbers_bound = fit.1 }
 
 pub returns : goal.returns
 unfolding tag_of content_of
 returns c =
     let mode = c.args.mode in
     let lent : First c.short_size-count.result (mode.boundary.0 ∷ mode.length.0 ∷ mode.fallback.0 ∷ []) (mode_numbers mode) =
-    let mode = c.args.mode in
     rw c.short_size-count.ensures (numbers_taken mode, mode_long mode) in
-    let s = c.before.before.before.before.before in
-    first_put _ _ _ (lent) 2 s.args.out.now _ c.put_field.ensures
+    first_put _ _ _ (lent) 2 c.args.out.now _ c.put_field.ensures
 
 pub slice_bounds-numbers-end : goal.slice_bounds-numbers-end
 unfolding content_of
 slice_bounds-numbers-end c =
     let mode = c.args.mode in
     let lent : First c.short_size-count.result (mode.boundary.0 ∷ mode.length.0 ∷ mode.fallback.0 ∷ []) (mode_numbers mode) =
-    let mode = c.args.mode in
     rw c.short_size-count.ensures (numbers_taken mode, mode_long mode) in first_there _ _ _ (lent)
 
 pub slice_bounds-put_field-end : goal.slice_bounds-put_field-end
@@ -41,5 +36,4 @@ unfolding content_of
 slice_bounds-put_field-end c =
     let mode = c.args.mode in
     let lent : First c.short_size-count.result (mode.boundary.0 ∷ mode.length.0 ∷ mode.fallback.0 ∷ []) (mode_numbers mode) =
-    let mode = c.args.mode in
     rw c.short_size-count.ensures (numbers_taken mode, mode_long mode) in simp length-take (omega (arith, first_there _ _ _ (lent)))

@@ -1,10 +1,9 @@
 -- `put_modes` meets its contract: each turn writes the mode of its number behind those before it.
-use Prim.Native.Nat.{◌+◌, ◌-◌, ◌≤◌, ◌<◌}
-use Rattle.putting.proofs.Standing.{Standing, none_standing, next_room, next_standing, all_far, all_put}
+use Prim.Native.Nat.{◌+◌, ◌≤◌, ◌<◌}
+use Rattle.putting.proofs.Standing.{none_standing, next_room, next_standing, all_far, all_put}
 use Rattle.putting.proofs.UnbrokenColumns.{modes_long}
 use Rattle.written.proofs.EntriesFrom.{mode_among, modes_from, modes_next, modes_end}
 use Rattle.written.proofs.ShortNumbers.{mode_long}
-use Rattle.written.specs.Values.{mode_entries}
 use Rattle.written.specs.Written.{field_of}
 use borrow.Author.Rules.{rules}
 use Rattle.fields.specs.declared.values.Mode.{Mode}
@@ -23,22 +22,14 @@ loop-number-preserved c =
     let there : (c.loop-number.number < length a.lengths.now) × (c.loop-number.number < length a.fallbacks.now) =
     let long = modes_long _ _ _ c.requires.unbroken in
     (omega arith, omega arith) in
-    let a = c.args in
     let number = c.loop-number.number in
     let first : modes_from a.boundaries.now a.lengths.now a.fallbacks.now number ≡ mode_among a.boundaries.now a.lengths.now a.fallbacks.now number ∷ modes_from a.boundaries.now a.lengths.now a.fallbacks.now (number + 1) =
-    let a = c.args in
     modes_next a.boundaries.now a.lengths.now a.fallbacks.now _ (omega arith) (there).0 (there).1 in
-    let turn = c.before.before.before.before.before.before.before.before in
-    let a = turn.args in
-    let moves : 3 + c.short_size.result ≡ length (field_of (mode_among a.boundaries.now a.lengths.now a.fallbacks.now turn.loop-number.number)) =
-    let turn = c.before.before.before.before.before.before.before.before in
-    let a = turn.args in
-    let number = turn.loop-number.number in
+    let moves : 3 + c.short_size.result ≡ length (field_of (mode_among a.boundaries.now a.lengths.now a.fallbacks.now c.loop-number.number)) =
     let mode : Mode = record { boundary = record { 0 = get_or a.boundaries.now number 0 }; length = record { 0 = get_or a.lengths.now number 0 }; fallback = record { 0 = get_or a.fallbacks.now number 0 } } in
     omega (arith, c.short_size.ensures, mode_long mode) in
-    let turn = c.before.before.before.before.before.before.before.before in
     let call = c.put_mode in
-    (omega arith, next_standing _ _ _ _ _ _ _ turn.loop-number.invariant.1 (first) (3 + c.short_size.result) call.new.out (moves) call.auto.0 call.ensures)
+    (omega arith, next_standing _ _ _ _ _ _ _ c.loop-number.invariant.1 (first) (3 + c.short_size.result) call.new.out (moves) call.auto.out call.ensures)
 
 pub returns : goal.returns
 returns c =
@@ -68,12 +59,9 @@ slice_bounds-put_mode-count c =
     let there : (c.loop-number.number < length a.lengths.now) × (c.loop-number.number < length a.fallbacks.now) =
     let long = modes_long _ _ _ c.requires.unbroken in
     (omega arith, omega arith) in
-    let a = c.args in
     let number = c.loop-number.number in
     let first : modes_from a.boundaries.now a.lengths.now a.fallbacks.now number ≡ mode_among a.boundaries.now a.lengths.now a.fallbacks.now number ∷ modes_from a.boundaries.now a.lengths.now a.fallbacks.now (number + 1) =
-    let a = c.args in
     modes_next a.boundaries.now a.lengths.now a.fallbacks.now _ (omega arith) (there).0 (there).1 in
-    let a = c.args in
     let l = c.loop-number in
     let fits : l.at + length (field_of (mode_among a.boundaries.now a.lengths.now a.fallbacks.now l.number)) ≤ length l.out = next_room _ _ _ _ _ _ _ c.loop-number.invariant.1 (first) c.requires.fallbacks_in_bounds in omega (arith, fits)
 
@@ -83,12 +71,9 @@ slice_bounds-put_mode-start c =
     let there : (c.loop-number.number < length a.lengths.now) × (c.loop-number.number < length a.fallbacks.now) =
     let long = modes_long _ _ _ c.requires.unbroken in
     (omega arith, omega arith) in
-    let a = c.args in
     let number = c.loop-number.number in
     let first : modes_from a.boundaries.now a.lengths.now a.fallbacks.now number ≡ mode_among a.boundaries.now a.lengths.now a.fallbacks.now number ∷ modes_from a.boundaries.now a.lengths.now a.fallbacks.now (number + 1) =
-    let a = c.args in
     modes_next a.boundaries.now a.lengths.now a.fallbacks.now _ (omega arith) (there).0 (there).1 in
-    let a = c.args in
     let l = c.loop-number in
     let fits : l.at + length (field_of (mode_among a.boundaries.now a.lengths.now a.fallbacks.now l.number)) ≤ length l.out = next_room _ _ _ _ _ _ _ c.loop-number.invariant.1 (first) c.requires.fallbacks_in_bounds in omega (arith, fits)
 
@@ -98,12 +83,9 @@ put_mode-requires c =
     let there : (c.loop-number.number < length a.lengths.now) × (c.loop-number.number < length a.fallbacks.now) =
     let long = modes_long _ _ _ c.requires.unbroken in
     (omega arith, omega arith) in
-    let a = c.args in
     let number = c.loop-number.number in
     let first : modes_from a.boundaries.now a.lengths.now a.fallbacks.now number ≡ mode_among a.boundaries.now a.lengths.now a.fallbacks.now number ∷ modes_from a.boundaries.now a.lengths.now a.fallbacks.now (number + 1) =
-    let a = c.args in
     modes_next a.boundaries.now a.lengths.now a.fallbacks.now _ (omega arith) (there).0 (there).1 in
-    let a = c.args in
     let l = c.loop-number in
     let fits : l.at + length (field_of (mode_among a.boundaries.now a.lengths.now a.fallbacks.now l.number)) ≤ length l.out = next_room _ _ _ _ _ _ _ c.loop-number.invariant.1 (first) c.requires.fallbacks_in_bounds in simp (length-take, length-drop) (omega (arith, fits))
 
@@ -113,20 +95,12 @@ overflow_add-at c =
     let there : (c.loop-number.number < length a.lengths.now) × (c.loop-number.number < length a.fallbacks.now) =
     let long = modes_long _ _ _ c.requires.unbroken in
     (omega arith, omega arith) in
-    let a = c.args in
     let number = c.loop-number.number in
     let first : modes_from a.boundaries.now a.lengths.now a.fallbacks.now number ≡ mode_among a.boundaries.now a.lengths.now a.fallbacks.now number ∷ modes_from a.boundaries.now a.lengths.now a.fallbacks.now (number + 1) =
-    let a = c.args in
     modes_next a.boundaries.now a.lengths.now a.fallbacks.now _ (omega arith) (there).0 (there).1 in
-    let a = c.args in
     let l = c.loop-number in
     let fits : l.at + length (field_of (mode_among a.boundaries.now a.lengths.now a.fallbacks.now l.number)) ≤ length l.out = next_room _ _ _ _ _ _ _ c.loop-number.invariant.1 (first) c.requires.fallbacks_in_bounds in
-    let turn = c.before.before.before.before.before.before.before.before in
-    let a = turn.args in
-    let moves : 3 + c.short_size.result ≡ length (field_of (mode_among a.boundaries.now a.lengths.now a.fallbacks.now turn.loop-number.number)) =
-    let turn = c.before.before.before.before.before.before.before.before in
-    let a = turn.args in
-    let number = turn.loop-number.number in
+    let moves : 3 + c.short_size.result ≡ length (field_of (mode_among a.boundaries.now a.lengths.now a.fallbacks.now c.loop-number.number)) =
     let mode : Mode = record { boundary = record { 0 = get_or a.boundaries.now number 0 }; length = record { 0 = get_or a.lengths.now number 0 }; fallback = record { 0 = get_or a.fallbacks.now number 0 } } in
     omega (arith, c.short_size.ensures, mode_long mode) in omega (arith, moves, fits)
 
@@ -136,20 +110,12 @@ overflow_add-at-in-loop-number c =
     let there : (c.loop-number.number < length a.lengths.now) × (c.loop-number.number < length a.fallbacks.now) =
     let long = modes_long _ _ _ c.requires.unbroken in
     (omega arith, omega arith) in
-    let a = c.args in
     let number = c.loop-number.number in
     let first : modes_from a.boundaries.now a.lengths.now a.fallbacks.now number ≡ mode_among a.boundaries.now a.lengths.now a.fallbacks.now number ∷ modes_from a.boundaries.now a.lengths.now a.fallbacks.now (number + 1) =
-    let a = c.args in
     modes_next a.boundaries.now a.lengths.now a.fallbacks.now _ (omega arith) (there).0 (there).1 in
-    let a = c.args in
     let l = c.loop-number in
     let fits : l.at + length (field_of (mode_among a.boundaries.now a.lengths.now a.fallbacks.now l.number)) ≤ length l.out = next_room _ _ _ _ _ _ _ c.loop-number.invariant.1 (first) c.requires.fallbacks_in_bounds in
-    let turn = c.before.before.before.before.before.before.before.before in
-    let a = turn.args in
-    let moves : 3 + c.short_size.result ≡ length (field_of (mode_among a.boundaries.now a.lengths.now a.fallbacks.now turn.loop-number.number)) =
-    let turn = c.before.before.before.before.before.before.before.before in
-    let a = turn.args in
-    let number = turn.loop-number.number in
+    let moves : 3 + c.short_size.result ≡ length (field_of (mode_among a.boundaries.now a.lengths.now a.fallbacks.now c.loop-number.number)) =
     let mode : Mode = record { boundary = record { 0 = get_or a.boundaries.now number 0 }; length = record { 0 = get_or a.lengths.now number 0 }; fallback = record { 0 = get_or a.fallbacks.now number 0 } } in
     omega (arith, c.short_size.ensures, mode_long mode) in omega (arith, moves, fits)
 

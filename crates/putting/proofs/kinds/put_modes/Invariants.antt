@@ -1,16 +1,8 @@
-use Prim.Native.Nat.{◌+◌, ◌-◌, ◌≤◌, ◌<◌}
-use Rattle.putting.proofs.Standing.{Standing, none_standing, next_room, next_standing, all_far, all_put}
-use Rattle.putting.proofs.UnbrokenColumns.{modes_long}
-use Rattle.written.proofs.EntriesFrom.{mode_among, modes_from, modes_next, modes_end}
-use Rattle.written.proofs.ShortNumbers.{mode_long}
+use Prim.Native.Nat.{◌-◌, ◌≤◌}
+use Rattle.putting.proofs.Standing.{Standing}
+use Rattle.written.proofs.EntriesFrom.{modes_from}
 use Rattle.written.specs.Values.{mode_entries}
-use Rattle.written.specs.Written.{field_of}
-use borrow.Author.Rules.{rules}
-use Rattle.fields.specs.declared.values.Mode.{Mode}
-use lib.ListN.{length, get_or, length-take, length-drop}
-use mathlib.Core.List.{◌∷◌}
-use mathlib.Core.Path.{◌≡◌}
-use native.Mathlib.Omega.{arith}
+use lib.ListN.{length}
 use Rattle.putting.proofs.kinds.put_modes.Given as goal
 
 abbrev pub invariant-loop-number : goal.invariant-loop-number

@@ -3,7 +3,6 @@ use Prim.Native.Nat.{◌+◌, ◌*◌}
 use native.Mathlib.Omega.{arith}
 use mathlib.Core.Path.{◌≡◌}
 use lib.ListN.{length}
-use borrow.Author.Rules.{rules}
 use Rattle.fields.specs.Limits.{head_size, gap_size}
 use Rattle.written.specs.Values.{RowEntry}
 use Rattle.written.specs.Written.{words, tag_of, content_of}
@@ -14,11 +13,10 @@ use Rattle.putting.proofs.kinds.put_row.Goals as goal
 pub returns : goal.returns
 unfolding tag_of content_of words
 returns c =
-    let called = c.before.before in
-    let head = called.put_head in
-    let a = called.args in
+    let head = c.put_head in
+    let a = c.args in
     let gaps = a.gaps.now in
     let content = content_of (RowEntry a.row.speed a.row.deadline a.row.followers gaps) in
     let size = head_size + gap_size * length gaps in
     let long : size ≡ length content = omega (arith, words_length gaps) in
-    put_behind_head 3 size content a.out.now head.new.out called.put_row_content.new.out long head.ensures called.put_row_content.ensures
+    put_behind_head 3 size content a.out.now head.new.out c.put_row_content.new.out long head.ensures c.put_row_content.ensures

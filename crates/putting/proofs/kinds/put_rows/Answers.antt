@@ -1,10 +1,9 @@
 -- `put_rows` meets its contract: each turn writes the row of its number, with the gaps behind those of the rows before, behind those rows.
 use Prim.Native.Nat.{◌+◌, ◌-◌, ◌*◌, ◌≤◌, ◌<◌}
-use Rattle.putting.proofs.Standing.{Standing, none_standing, next_room, next_standing, all_far, all_put}
+use Rattle.putting.proofs.Standing.{none_standing, next_room, next_standing, all_far, all_put}
 use Rattle.putting.proofs.UnbrokenColumns.{rows_long, gaps_there, rows_over}
 use Rattle.written.proofs.EntriesFrom.{row_between, rows_from, rows_next}
 use Rattle.written.proofs.EntryFields.{words_length}
-use Rattle.written.specs.Values.{row_entries}
 use Rattle.written.specs.Written.{words, tag_of, content_of, field_of}
 use borrow.Author.Rules.{rules}
 use lib.ListN.{length, take, drop, length-take, length-drop}
@@ -21,78 +20,52 @@ pub put_row-requires : goal.put_row-requires
 unfolding words tag_of content_of
 put_row-requires c =
     let a = c.args in
+    let l = c.loop-number in
     let there : (c.loop-number.number < length a.deadlines.now) × (c.loop-number.number < length a.sets.now) =
     let long = rows_long _ _ _ _ c.requires.unbroken in
     (omega arith, omega arith) in
     let own-gaps : c.loop-number.from + c.size.result ≤ length c.args.gaps.now =
-    let a = c.args in
-    let l = c.loop-number in
-    let turn = c.before.before.before.before in
     let inside = gaps_there a.speeds.now a.deadlines.now a.sets.now a.gaps.now l.number l.from l.invariant.1 (omega arith) (there).0 (there).1 l.invariant.2.unbroken in
     omega (arith, inside, c.size.ensures) in
-    let a = c.args in
-    let l = c.loop-number in
     let to = l.from + c.size.result in
     let field-long : 11 + 2 * c.size.result ≡ length (field_of (row_between a.speeds.now a.deadlines.now a.sets.now a.gaps.now l.number l.from to)) =
-    let l = c.loop-number in
     let rest = drop l.from c.args.gaps.now in
     let many = l.from + c.size.result - l.from in
     let enough : length (take many rest) ≡ many = length-take-le many rest (simp length-drop (omega (arith, own-gaps))) in
     omega (arith, words_length (take many rest), enough) in
-    let a = c.args in
-    let l = c.loop-number in
-    let to = l.from + c.size.result in
     let first : rows_from a.speeds.now a.deadlines.now a.sets.now a.gaps.now l.number l.from ≡ row_between a.speeds.now a.deadlines.now a.sets.now a.gaps.now l.number l.from to ∷ rows_from a.speeds.now a.deadlines.now a.sets.now a.gaps.now (l.number + 1) to =
-    let a = c.args in
-    let l = c.loop-number in
-    let turn = c.before.before.before.before in
     rows_next a.speeds.now a.deadlines.now a.sets.now a.gaps.now l.number l.from _ (omega arith) (there).0 (there).1
     (omega (arith, own-gaps, c.size.ensures)) in
-    let l = c.loop-number in
     let fits : l.at + (11 + 2 * c.size.result) ≤ length l.out =
-    let l = c.loop-number in
     rw (field-long) (next_room _ _ _ _ _ _ _ l.invariant.2 (first) c.requires.gaps_in_bounds) in
-    let sized = c.before.before in
-    let far = c.before.before.before.before.before.before.before.before.before.before.before.before.before in record { gaps_in_bounds = simp (length-take, length-drop) (omega (arith, field-long, fits)); gaps_len_bound = simp (length-take, length-drop) (omega (arith, sized.size.ensures)); followers_bound = far.requires.narrow _ }
+    record { gaps_in_bounds = simp (length-take, length-drop) (omega (arith, field-long, fits)); gaps_len_bound = simp (length-take, length-drop) (omega (arith, c.size.ensures)); followers_bound = c.requires.narrow _ }
 
 pub loop-number-preserved : goal.loop-number-preserved
 unfolding words tag_of content_of
 loop-number-preserved c =
     let a = c.args in
+    let l = c.loop-number in
     let there : (c.loop-number.number < length a.deadlines.now) × (c.loop-number.number < length a.sets.now) =
     let long = rows_long _ _ _ _ c.requires.unbroken in
     (omega arith, omega arith) in
     let own-gaps : c.loop-number.from + c.size.result ≤ length c.args.gaps.now =
-    let a = c.args in
-    let l = c.loop-number in
-    let turn = c.before.before.before.before in
     let inside = gaps_there a.speeds.now a.deadlines.now a.sets.now a.gaps.now l.number l.from l.invariant.1 (omega arith) (there).0 (there).1 l.invariant.2.unbroken in
     omega (arith, inside, c.size.ensures) in
-    let a = c.args in
-    let l = c.loop-number in
     let to = l.from + c.size.result in
     let first : rows_from a.speeds.now a.deadlines.now a.sets.now a.gaps.now l.number l.from ≡ row_between a.speeds.now a.deadlines.now a.sets.now a.gaps.now l.number l.from to ∷ rows_from a.speeds.now a.deadlines.now a.sets.now a.gaps.now (l.number + 1) to =
-    let a = c.args in
-    let l = c.loop-number in
-    let turn = c.before.before.before.before in
     rows_next a.speeds.now a.deadlines.now a.sets.now a.gaps.now l.number l.from _ (omega arith) (there).0 (there).1
     (omega (arith, own-gaps, c.size.ensures)) in
-    let a = c.args in
-    let l = c.loop-number in
-    let to = l.from + c.size.result in
     let field-long : 11 + 2 * c.size.result ≡ length (field_of (row_between a.speeds.now a.deadlines.now a.sets.now a.gaps.now l.number l.from to)) =
-    let l = c.loop-number in
     let rest = drop l.from c.args.gaps.now in
     let many = l.from + c.size.result - l.from in
     let enough : length (take many rest) ≡ many = length-take-le many rest (simp length-drop (omega (arith, own-gaps))) in
     omega (arith, words_length (take many rest), enough) in
-    let sized = c.before.before.before.before.before.before in
     let call = c.put_row in
-    let same : c.size-in-loop-number.result ≡ sized.size.result = c.size-in-loop-number.ensures.value ∙ sym sized.size.ensures.value in (
+    let same : c.size-in-loop-number.result ≡ c.size.result = c.size-in-loop-number.ensures.value ∙ sym c.size.ensures.value in (
       omega arith,
       own-gaps,
-      next_standing _ _ _ _ _ _ _ sized.loop-number.invariant.2 (first) (11 + 2 * c.size-in-loop-number.result) call.new.out
-          (ap (λ n. 11 + 2 * n) same ∙ field-long) call.auto.0 call.ensures,
+      next_standing _ _ _ _ _ _ _ c.loop-number.invariant.2 (first) (11 + 2 * c.size-in-loop-number.result) call.new.out
+          (ap (λ n. 11 + 2 * n) same ∙ field-long) call.auto.out call.ensures,
     )
 
 pub returns : goal.returns
@@ -127,13 +100,11 @@ bounds-deadlines-number c =
 pub overflow_add-to : goal.overflow_add-to
 overflow_add-to c =
     let a = c.args in
+    let l = c.loop-number in
     let there : (c.loop-number.number < length a.deadlines.now) × (c.loop-number.number < length a.sets.now) =
     let long = rows_long _ _ _ _ c.requires.unbroken in
     (omega arith, omega arith) in
     let own-gaps : c.loop-number.from + c.size.result ≤ length c.args.gaps.now =
-    let a = c.args in
-    let l = c.loop-number in
-    let turn = c.before.before.before.before in
     let inside = gaps_there a.speeds.now a.deadlines.now a.sets.now a.gaps.now l.number l.from l.invariant.1 (omega arith) (there).0 (there).1 l.invariant.2.unbroken in
     omega (arith, inside, c.size.ensures) in omega (arith, own-gaps)
 
@@ -141,84 +112,56 @@ pub slice_bounds-put_row-count : goal.slice_bounds-put_row-count
 unfolding words tag_of content_of
 slice_bounds-put_row-count c =
     let a = c.args in
+    let l = c.loop-number in
     let there : (c.loop-number.number < length a.deadlines.now) × (c.loop-number.number < length a.sets.now) =
     let long = rows_long _ _ _ _ c.requires.unbroken in
     (omega arith, omega arith) in
     let own-gaps : c.loop-number.from + c.size.result ≤ length c.args.gaps.now =
-    let a = c.args in
-    let l = c.loop-number in
-    let turn = c.before.before.before.before in
     let inside = gaps_there a.speeds.now a.deadlines.now a.sets.now a.gaps.now l.number l.from l.invariant.1 (omega arith) (there).0 (there).1 l.invariant.2.unbroken in
     omega (arith, inside, c.size.ensures) in
-    let a = c.args in
-    let l = c.loop-number in
     let to = l.from + c.size.result in
     let first : rows_from a.speeds.now a.deadlines.now a.sets.now a.gaps.now l.number l.from ≡ row_between a.speeds.now a.deadlines.now a.sets.now a.gaps.now l.number l.from to ∷ rows_from a.speeds.now a.deadlines.now a.sets.now a.gaps.now (l.number + 1) to =
-    let a = c.args in
-    let l = c.loop-number in
-    let turn = c.before.before.before.before in
     rows_next a.speeds.now a.deadlines.now a.sets.now a.gaps.now l.number l.from _ (omega arith) (there).0 (there).1
     (omega (arith, own-gaps, c.size.ensures)) in
-    let a = c.args in
-    let l = c.loop-number in
-    let to = l.from + c.size.result in
     let field-long : 11 + 2 * c.size.result ≡ length (field_of (row_between a.speeds.now a.deadlines.now a.sets.now a.gaps.now l.number l.from to)) =
-    let l = c.loop-number in
     let rest = drop l.from c.args.gaps.now in
     let many = l.from + c.size.result - l.from in
     let enough : length (take many rest) ≡ many = length-take-le many rest (simp length-drop (omega (arith, own-gaps))) in
     omega (arith, words_length (take many rest), enough) in
-    let l = c.loop-number in
     let fits : l.at + (11 + 2 * c.size.result) ≤ length l.out =
-    let l = c.loop-number in
     rw (field-long) (next_room _ _ _ _ _ _ _ l.invariant.2 (first) c.requires.gaps_in_bounds) in omega (arith, fits)
 
 pub slice_bounds-put_row-start : goal.slice_bounds-put_row-start
 unfolding words tag_of content_of
 slice_bounds-put_row-start c =
     let a = c.args in
+    let l = c.loop-number in
     let there : (c.loop-number.number < length a.deadlines.now) × (c.loop-number.number < length a.sets.now) =
     let long = rows_long _ _ _ _ c.requires.unbroken in
     (omega arith, omega arith) in
     let own-gaps : c.loop-number.from + c.size.result ≤ length c.args.gaps.now =
-    let a = c.args in
-    let l = c.loop-number in
-    let turn = c.before.before.before.before in
     let inside = gaps_there a.speeds.now a.deadlines.now a.sets.now a.gaps.now l.number l.from l.invariant.1 (omega arith) (there).0 (there).1 l.invariant.2.unbroken in
     omega (arith, inside, c.size.ensures) in
-    let a = c.args in
-    let l = c.loop-number in
     let to = l.from + c.size.result in
     let first : rows_from a.speeds.now a.deadlines.now a.sets.now a.gaps.now l.number l.from ≡ row_between a.speeds.now a.deadlines.now a.sets.now a.gaps.now l.number l.from to ∷ rows_from a.speeds.now a.deadlines.now a.sets.now a.gaps.now (l.number + 1) to =
-    let a = c.args in
-    let l = c.loop-number in
-    let turn = c.before.before.before.before in
     rows_next a.speeds.now a.deadlines.now a.sets.now a.gaps.now l.number l.from _ (omega arith) (there).0 (there).1
     (omega (arith, own-gaps, c.size.ensures)) in
-    let a = c.args in
-    let l = c.loop-number in
-    let to = l.from + c.size.result in
     let field-long : 11 + 2 * c.size.result ≡ length (field_of (row_between a.speeds.now a.deadlines.now a.sets.now a.gaps.now l.number l.from to)) =
-    let l = c.loop-number in
     let rest = drop l.from c.args.gaps.now in
     let many = l.from + c.size.result - l.from in
     let enough : length (take many rest) ≡ many = length-take-le many rest (simp length-drop (omega (arith, own-gaps))) in
     omega (arith, words_length (take many rest), enough) in
-    let l = c.loop-number in
     let fits : l.at + (11 + 2 * c.size.result) ≤ length l.out =
-    let l = c.loop-number in
     rw (field-long) (next_room _ _ _ _ _ _ _ l.invariant.2 (first) c.requires.gaps_in_bounds) in omega (arith, fits)
 
 pub slice_bounds-put_row-end-in-loop-number : goal.slice_bounds-put_row-end-in-loop-number
 slice_bounds-put_row-end-in-loop-number c =
     let a = c.args in
+    let l = c.loop-number in
     let there : (c.loop-number.number < length a.deadlines.now) × (c.loop-number.number < length a.sets.now) =
     let long = rows_long _ _ _ _ c.requires.unbroken in
     (omega arith, omega arith) in
     let own-gaps : c.loop-number.from + c.size.result ≤ length c.args.gaps.now =
-    let a = c.args in
-    let l = c.loop-number in
-    let turn = c.before.before.before.before in
     let inside = gaps_there a.speeds.now a.deadlines.now a.sets.now a.gaps.now l.number l.from l.invariant.1 (omega arith) (there).0 (there).1 l.invariant.2.unbroken in
     omega (arith, inside, c.size.ensures) in own-gaps
 
@@ -232,36 +175,23 @@ pub overflow_add-at-in-loop-number-2 : goal.overflow_add-at-in-loop-number-2
 unfolding words tag_of content_of
 overflow_add-at-in-loop-number-2 c =
     let a = c.args in
+    let l = c.loop-number in
     let there : (c.loop-number.number < length a.deadlines.now) × (c.loop-number.number < length a.sets.now) =
     let long = rows_long _ _ _ _ c.requires.unbroken in
     (omega arith, omega arith) in
     let own-gaps : c.loop-number.from + c.size.result ≤ length c.args.gaps.now =
-    let a = c.args in
-    let l = c.loop-number in
-    let turn = c.before.before.before.before in
     let inside = gaps_there a.speeds.now a.deadlines.now a.sets.now a.gaps.now l.number l.from l.invariant.1 (omega arith) (there).0 (there).1 l.invariant.2.unbroken in
     omega (arith, inside, c.size.ensures) in
-    let a = c.args in
-    let l = c.loop-number in
     let to = l.from + c.size.result in
     let first : rows_from a.speeds.now a.deadlines.now a.sets.now a.gaps.now l.number l.from ≡ row_between a.speeds.now a.deadlines.now a.sets.now a.gaps.now l.number l.from to ∷ rows_from a.speeds.now a.deadlines.now a.sets.now a.gaps.now (l.number + 1) to =
-    let a = c.args in
-    let l = c.loop-number in
-    let turn = c.before.before.before.before in
     rows_next a.speeds.now a.deadlines.now a.sets.now a.gaps.now l.number l.from _ (omega arith) (there).0 (there).1
     (omega (arith, own-gaps, c.size.ensures)) in
-    let a = c.args in
-    let l = c.loop-number in
-    let to = l.from + c.size.result in
     let field-long : 11 + 2 * c.size.result ≡ length (field_of (row_between a.speeds.now a.deadlines.now a.sets.now a.gaps.now l.number l.from to)) =
-    let l = c.loop-number in
     let rest = drop l.from c.args.gaps.now in
     let many = l.from + c.size.result - l.from in
     let enough : length (take many rest) ≡ many = length-take-le many rest (simp length-drop (omega (arith, own-gaps))) in
     omega (arith, words_length (take many rest), enough) in
-    let l = c.loop-number in
     let fits : l.at + (11 + 2 * c.size.result) ≤ length l.out =
-    let l = c.loop-number in
     rw (field-long) (next_room _ _ _ _ _ _ _ l.invariant.2 (first) c.requires.gaps_in_bounds) in omega (arith, c.size-in-loop-number.ensures, c.size.ensures, fits)
 
 pub shape_of-out : goal.shape_of-out

@@ -1,16 +1,8 @@
-use Prim.Native.Nat.{◌+◌, ◌-◌, ◌*◌, ◌≤◌, ◌<◌}
-use Rattle.putting.proofs.Standing.{Standing, none_standing, next_room, next_standing, all_far, all_put}
-use Rattle.putting.proofs.UnbrokenColumns.{rows_long, gaps_there, rows_over}
-use Rattle.written.proofs.EntriesFrom.{row_between, rows_from, rows_next}
-use Rattle.written.proofs.EntryFields.{words_length}
+use Prim.Native.Nat.{◌-◌, ◌≤◌}
+use Rattle.putting.proofs.Standing.{Standing}
+use Rattle.written.proofs.EntriesFrom.{rows_from}
 use Rattle.written.specs.Values.{row_entries}
-use Rattle.written.specs.Written.{words, tag_of, content_of, field_of}
-use borrow.Author.Rules.{rules}
-use lib.ListN.{length, take, drop, length-take, length-drop}
-use lib.Seq.{length-take-le}
-use mathlib.Core.List.{◌∷◌}
-use mathlib.Core.Path.{◌≡◌, ◌∙◌, sym, ap}
-use native.Mathlib.Omega.{arith}
+use lib.ListN.{length}
 use Rattle.putting.proofs.kinds.put_rows.Given as goal
 
 abbrev pub invariant-loop-number : goal.invariant-loop-number

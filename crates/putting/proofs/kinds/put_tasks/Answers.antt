@@ -1,10 +1,9 @@
 -- `put_tasks` meets its contract: each turn writes the fixed task of its number behind those before it.
-use Prim.Native.Nat.{◌+◌, ◌-◌, ◌≤◌, ◌<◌}
-use Rattle.putting.proofs.Standing.{Standing, none_standing, next_room, next_standing, all_far, all_put}
+use Prim.Native.Nat.{◌+◌, ◌≤◌, ◌<◌}
+use Rattle.putting.proofs.Standing.{none_standing, next_room, next_standing, all_far, all_put}
 use Rattle.putting.proofs.UnbrokenColumns.{tasks_long}
 use Rattle.written.proofs.EntriesFrom.{task_among, tasks_from, tasks_next, tasks_end}
 use Rattle.written.proofs.ShortNumbers.{task_long}
-use Rattle.written.specs.Values.{task_entries}
 use Rattle.written.specs.Written.{field_of}
 use borrow.Author.Rules.{rules}
 use Rattle.fields.specs.declared.values.Task.{Task}
@@ -24,22 +23,13 @@ loop-number-preserved c =
     let there : (number < length a.periods.now) × (number < length a.deadlines.now) × (number < length a.jitters.now) =
     let long = tasks_long _ _ _ _ c.requires.unbroken in
     (omega arith, omega arith, omega arith) in
-    let a = c.args in
-    let number = c.loop-number.number in
     let first : tasks_from a.lengths.now a.periods.now a.deadlines.now a.jitters.now number ≡ task_among a.lengths.now a.periods.now a.deadlines.now a.jitters.now number ∷ tasks_from a.lengths.now a.periods.now a.deadlines.now a.jitters.now (number + 1) =
-    let a = c.args in
     tasks_next a.lengths.now a.periods.now a.deadlines.now a.jitters.now _ (omega arith) (there).0 (there).1 (there).2 in
-    let turn = c.before.before.before.before.before.before.before.before.before in
-    let a = turn.args in
-    let moves : 3 + c.short_size.result ≡ length (field_of (task_among a.lengths.now a.periods.now a.deadlines.now a.jitters.now turn.loop-number.number)) =
-    let turn = c.before.before.before.before.before.before.before.before.before in
-    let a = turn.args in
-    let number = turn.loop-number.number in
+    let moves : 3 + c.short_size.result ≡ length (field_of (task_among a.lengths.now a.periods.now a.deadlines.now a.jitters.now c.loop-number.number)) =
     let task : Task = record { length = record { 0 = get_or a.lengths.now number 0 }; period = record { 0 = get_or a.periods.now number 0 }; deadline = record { 0 = get_or a.deadlines.now number 0 }; jitter = record { 0 = get_or a.jitters.now number 0 } } in
     omega (arith, c.short_size.ensures, task_long task) in
-    let turn = c.before.before.before.before.before.before.before.before.before in
     let call = c.put_task in
-    (omega arith, next_standing _ _ _ _ _ _ _ turn.loop-number.invariant.1 (first) (3 + c.short_size.result) call.new.out (moves) call.auto.0 call.ensures)
+    (omega arith, next_standing _ _ _ _ _ _ _ c.loop-number.invariant.1 (first) (3 + c.short_size.result) call.new.out (moves) call.auto.out call.ensures)
 
 pub returns : goal.returns
 returns c =
@@ -80,12 +70,8 @@ slice_bounds-put_task-count c =
     let there : (number < length a.periods.now) × (number < length a.deadlines.now) × (number < length a.jitters.now) =
     let long = tasks_long _ _ _ _ c.requires.unbroken in
     (omega arith, omega arith, omega arith) in
-    let a = c.args in
-    let number = c.loop-number.number in
     let first : tasks_from a.lengths.now a.periods.now a.deadlines.now a.jitters.now number ≡ task_among a.lengths.now a.periods.now a.deadlines.now a.jitters.now number ∷ tasks_from a.lengths.now a.periods.now a.deadlines.now a.jitters.now (number + 1) =
-    let a = c.args in
     tasks_next a.lengths.now a.periods.now a.deadlines.now a.jitters.now _ (omega arith) (there).0 (there).1 (there).2 in
-    let a = c.args in
     let l = c.loop-number in
     let fits : l.at + length (field_of (task_among a.lengths.now a.periods.now a.deadlines.now a.jitters.now l.number)) ≤ length l.out = next_room _ _ _ _ _ _ _ c.loop-number.invariant.1 (first) c.requires.jitters_in_bounds in omega (arith, fits)
 
@@ -96,12 +82,8 @@ slice_bounds-put_task-start c =
     let there : (number < length a.periods.now) × (number < length a.deadlines.now) × (number < length a.jitters.now) =
     let long = tasks_long _ _ _ _ c.requires.unbroken in
     (omega arith, omega arith, omega arith) in
-    let a = c.args in
-    let number = c.loop-number.number in
     let first : tasks_from a.lengths.now a.periods.now a.deadlines.now a.jitters.now number ≡ task_among a.lengths.now a.periods.now a.deadlines.now a.jitters.now number ∷ tasks_from a.lengths.now a.periods.now a.deadlines.now a.jitters.now (number + 1) =
-    let a = c.args in
     tasks_next a.lengths.now a.periods.now a.deadlines.now a.jitters.now _ (omega arith) (there).0 (there).1 (there).2 in
-    let a = c.args in
     let l = c.loop-number in
     let fits : l.at + length (field_of (task_among a.lengths.now a.periods.now a.deadlines.now a.jitters.now l.number)) ≤ length l.out = next_room _ _ _ _ _ _ _ c.loop-number.invariant.1 (first) c.requires.jitters_in_bounds in omega (arith, fits)
 
@@ -112,12 +94,8 @@ put_task-requires c =
     let there : (number < length a.periods.now) × (number < length a.deadlines.now) × (number < length a.jitters.now) =
     let long = tasks_long _ _ _ _ c.requires.unbroken in
     (omega arith, omega arith, omega arith) in
-    let a = c.args in
-    let number = c.loop-number.number in
     let first : tasks_from a.lengths.now a.periods.now a.deadlines.now a.jitters.now number ≡ task_among a.lengths.now a.periods.now a.deadlines.now a.jitters.now number ∷ tasks_from a.lengths.now a.periods.now a.deadlines.now a.jitters.now (number + 1) =
-    let a = c.args in
     tasks_next a.lengths.now a.periods.now a.deadlines.now a.jitters.now _ (omega arith) (there).0 (there).1 (there).2 in
-    let a = c.args in
     let l = c.loop-number in
     let fits : l.at + length (field_of (task_among a.lengths.now a.periods.now a.deadlines.now a.jitters.now l.number)) ≤ length l.out = next_room _ _ _ _ _ _ _ c.loop-number.invariant.1 (first) c.requires.jitters_in_bounds in simp (length-take, length-drop) (omega (arith, fits))
 
@@ -128,20 +106,11 @@ overflow_add-at c =
     let there : (number < length a.periods.now) × (number < length a.deadlines.now) × (number < length a.jitters.now) =
     let long = tasks_long _ _ _ _ c.requires.unbroken in
     (omega arith, omega arith, omega arith) in
-    let a = c.args in
-    let number = c.loop-number.number in
     let first : tasks_from a.lengths.now a.periods.now a.deadlines.now a.jitters.now number ≡ task_among a.lengths.now a.periods.now a.deadlines.now a.jitters.now number ∷ tasks_from a.lengths.now a.periods.now a.deadlines.now a.jitters.now (number + 1) =
-    let a = c.args in
     tasks_next a.lengths.now a.periods.now a.deadlines.now a.jitters.now _ (omega arith) (there).0 (there).1 (there).2 in
-    let a = c.args in
     let l = c.loop-number in
     let fits : l.at + length (field_of (task_among a.lengths.now a.periods.now a.deadlines.now a.jitters.now l.number)) ≤ length l.out = next_room _ _ _ _ _ _ _ c.loop-number.invariant.1 (first) c.requires.jitters_in_bounds in
-    let turn = c.before.before.before.before.before.before.before.before.before in
-    let a = turn.args in
-    let moves : 3 + c.short_size.result ≡ length (field_of (task_among a.lengths.now a.periods.now a.deadlines.now a.jitters.now turn.loop-number.number)) =
-    let turn = c.before.before.before.before.before.before.before.before.before in
-    let a = turn.args in
-    let number = turn.loop-number.number in
+    let moves : 3 + c.short_size.result ≡ length (field_of (task_among a.lengths.now a.periods.now a.deadlines.now a.jitters.now c.loop-number.number)) =
     let task : Task = record { length = record { 0 = get_or a.lengths.now number 0 }; period = record { 0 = get_or a.periods.now number 0 }; deadline = record { 0 = get_or a.deadlines.now number 0 }; jitter = record { 0 = get_or a.jitters.now number 0 } } in
     omega (arith, c.short_size.ensures, task_long task) in omega (arith, moves, fits)
 
@@ -152,20 +121,11 @@ overflow_add-at-in-loop-number c =
     let there : (number < length a.periods.now) × (number < length a.deadlines.now) × (number < length a.jitters.now) =
     let long = tasks_long _ _ _ _ c.requires.unbroken in
     (omega arith, omega arith, omega arith) in
-    let a = c.args in
-    let number = c.loop-number.number in
     let first : tasks_from a.lengths.now a.periods.now a.deadlines.now a.jitters.now number ≡ task_among a.lengths.now a.periods.now a.deadlines.now a.jitters.now number ∷ tasks_from a.lengths.now a.periods.now a.deadlines.now a.jitters.now (number + 1) =
-    let a = c.args in
     tasks_next a.lengths.now a.periods.now a.deadlines.now a.jitters.now _ (omega arith) (there).0 (there).1 (there).2 in
-    let a = c.args in
     let l = c.loop-number in
     let fits : l.at + length (field_of (task_among a.lengths.now a.periods.now a.deadlines.now a.jitters.now l.number)) ≤ length l.out = next_room _ _ _ _ _ _ _ c.loop-number.invariant.1 (first) c.requires.jitters_in_bounds in
-    let turn = c.before.before.before.before.before.before.before.before.before in
-    let a = turn.args in
-    let moves : 3 + c.short_size.result ≡ length (field_of (task_among a.lengths.now a.periods.now a.deadlines.now a.jitters.now turn.loop-number.number)) =
-    let turn = c.before.before.before.before.before.before.before.before.before in
-    let a = turn.args in
-    let number = turn.loop-number.number in
+    let moves : 3 + c.short_size.result ≡ length (field_of (task_among a.lengths.now a.periods.now a.deadlines.now a.jitters.now c.loop-number.number)) =
     let task : Task = record { length = record { 0 = get_or a.lengths.now number 0 }; period = record { 0 = get_or a.periods.now number 0 }; deadline = record { 0 = get_or a.deadlines.now number 0 }; jitter = record { 0 = get_or a.jitters.now number 0 } } in
     omega (arith, c.short_size.ensures, task_long task) in omega (arith, moves, fits)
 

@@ -1,16 +1,8 @@
-use Prim.Native.Nat.{◌+◌, ◌-◌, ◌≤◌, ◌<◌}
-use Rattle.putting.proofs.Standing.{Standing, none_standing, next_room, next_standing, all_far, all_put}
-use Rattle.putting.proofs.UnbrokenColumns.{tasks_long}
-use Rattle.written.proofs.EntriesFrom.{task_among, tasks_from, tasks_next, tasks_end}
-use Rattle.written.proofs.ShortNumbers.{task_long}
+use Prim.Native.Nat.{◌-◌, ◌≤◌}
+use Rattle.putting.proofs.Standing.{Standing}
+use Rattle.written.proofs.EntriesFrom.{tasks_from}
 use Rattle.written.specs.Values.{task_entries}
-use Rattle.written.specs.Written.{field_of}
-use borrow.Author.Rules.{rules}
-use Rattle.fields.specs.declared.values.Task.{Task}
-use lib.ListN.{length, get_or, length-take, length-drop}
-use mathlib.Core.List.{◌∷◌}
-use mathlib.Core.Path.{◌≡◌}
-use native.Mathlib.Omega.{arith}
+use lib.ListN.{length}
 use Rattle.putting.proofs.kinds.put_tasks.Given as goal
 
 abbrev pub invariant-loop-number : goal.invariant-loop-number

@@ -2,7 +2,6 @@
 use Prim.Native.Nat.{◌/◌, ◌%◌}
 use mathlib.Core.List.{[], ◌∷◌}
 use lib.Seq.{sets-eq}
-use borrow.Author.Rules.{rules}
 use Rattle.written.specs.Written.{words}
 use Rattle.putting.proofs.pieces.put_number.Goals as goal
 

@@ -1,5 +1,5 @@
 -- `put_numbers` meets its contract. The numbers passed stand at the front of the output, and behind them it is as it was.
-use Prim.Native.Nat.{ℕ, ◌+◌, ◌-◌, ◌*◌, ◌≤◌, ◌<◌}
+use Prim.Native.Nat.{ℕ, ◌+◌, ◌-◌, ◌*◌, ◌<◌}
 use native.Mathlib.Numerals.{add-one}
 use native.Mathlib.Omega.{arith}
 use mathlib.Core.Path.{◌≡◌, ◌∙◌, refl}
@@ -10,7 +10,6 @@ use borrow.Author.Rules.{rules}
 use borrow.Rule.Slice.PartMut.{same_len_mid}
 use Rattle.written.specs.Written.{words}
 use Rattle.written.proofs.EntryFields.{words_length, words_append}
-use Rattle.putting.specs.Putting.{Put}
 use Rattle.putting.proofs.Behind.{put_behind}
 use Rattle.putting.proofs.pieces.put_numbers.Goals as goal
 
@@ -33,7 +32,7 @@ loop-at-preserved c =
     let inside : l.at < length numbers = omega arith in
     let long : 2 * l.at ≡ length done = omega (arith, words_length (take l.at numbers), length-take-le l.at numbers (omega arith)) in (
       omega arith,
-      same_len_mid (2 * l.at) (length l.out - 2 * l.at) l.out call.new.out call.auto.0 ∙ l.invariant.1,
+      same_len_mid (2 * l.at) (length l.out - 2 * l.at) l.out call.new.out call.auto.out ∙ l.invariant.1,
       rw (← further numbers l.at inside) (put_behind (2 * l.at) done (words number) a.out.now l.out call.new.out long l.invariant.2 call.ensures),
     )
 

@@ -1,16 +1,8 @@
-use Prim.Native.Nat.{ℕ, ◌+◌, ◌-◌, ◌*◌, ◌≤◌, ◌<◌}
-use native.Mathlib.Numerals.{add-one}
-use native.Mathlib.Omega.{arith}
-use mathlib.Core.Path.{◌≡◌, ◌∙◌, refl}
-use mathlib.Core.List.{List, [], ◌∷◌, ◌++◌}
-use lib.ListN.{length, take, get_or, length-take, length-drop}
-use lib.Seq.{take-suc, take-length, length-take-le}
-use borrow.Author.Rules.{rules}
-use borrow.Rule.Slice.PartMut.{same_len_mid}
+use Prim.Native.Nat.{◌-◌, ◌≤◌}
+use mathlib.Core.Path.{◌≡◌}
+use lib.ListN.{length, take}
 use Rattle.written.specs.Written.{words}
-use Rattle.written.proofs.EntryFields.{words_length, words_append}
 use Rattle.putting.specs.Putting.{Put}
-use Rattle.putting.proofs.Behind.{put_behind}
 use Rattle.putting.proofs.pieces.put_numbers.Given as goal
 
 abbrev pub invariant-loop-at : goal.invariant-loop-at

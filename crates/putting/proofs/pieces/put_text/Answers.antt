@@ -1,11 +1,11 @@
 -- `put_text` meets its contract. The bytes passed are copied to the front of the output, and behind them it is as it was.
-use Prim.Native.Nat.{ℕ, ◌-◌, ◌≤◌}
+use Prim.Native.Nat.{ℕ}
 use native.Mathlib.Nat.{zero-add}
 use native.Mathlib.Numerals.{add-one}
 use native.Mathlib.Omega.{arith}
 use mathlib.Core.Path.{◌≡◌, ◌∙◌, refl, ap}
-use mathlib.Core.List.{List, ◌++◌}
-use lib.ListN.{length, take, drop, get_or, set, length-set}
+use mathlib.Core.List.{List}
+use lib.ListN.{length, get_or, set, length-set}
 use lib.Seq.{paste-suc, take-length}
 use borrow.Author.Rules.{rules}
 use Rattle.putting.proofs.pieces.put_text.Goals as goal

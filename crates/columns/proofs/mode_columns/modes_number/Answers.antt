@@ -1,9 +1,7 @@
 -- `modes_number` meets its contract. The modes that are left decide as all of them do.
-use Prim.Native.Nat.{◌+◌, ◌-◌, ◌≤◌, min}
+use Prim.Native.Nat.{◌+◌}
 use native.Mathlib.Omega.{arith}
-use mathlib.Core.Path.{◌≡◌}
 use mathlib.Core.List.{◌∷◌}
-use lib.ListN.{length}
 use borrow.Author.Rules.{rules}
 use Rattle.written.specs.Judging.{count_entry}
 use Rattle.written.specs.Values.{mode_entries}
@@ -11,7 +9,7 @@ use Rattle.written.proofs.EntriesFrom.{mode_among, modes_from, modes_next, modes
 use Rattle.written.proofs.EntriesKept.{entry_kept, mode_says}
 use Rattle.columns.proofs.Onward.{Onward, onward_start, onward_next, onward_stop, onward_end, onward_cut}
 use Rattle.columns.proofs.Told.{all_over, not_all_over}
-use Rattle.columns.proofs.modes.modes_number.Goals as goal
+use Rattle.columns.proofs.mode_columns.modes_number.Goals as goal
 
 pub loop-at-init : goal.loop-at-init
 loop-at-init c = (search rules, rw (← c.least.ensures) c.least-whole.ensures, onward_start _ _)

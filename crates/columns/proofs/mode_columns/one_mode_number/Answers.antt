@@ -2,8 +2,7 @@
 use Rattle.fields.proofs.Deciding.{pass, stop}
 use Rattle.rules.specs.Rules.{common_rules}
 use Rattle.written.specs.Judging.{entry_rules}
-use borrow.Author.Rules.{rules}
-use Rattle.columns.proofs.modes.one_mode_number.Goals as goal
+use Rattle.columns.proofs.mode_columns.one_mode_number.Goals as goal
 
 pub returns-then-number-ne0 : goal.returns-then-number-ne0
 unfolding entry_rules
