@@ -5,6 +5,7 @@ ghost use Rattle.answers.specs.Room.{lines_for, HasRoom};
 
 use crate::{AREA, FEW, MANY};
 use fields::values::Sheet;
+use std::io;
 use telling::{rows_of, tell_at, tell_curve, tell_shortest};
 use telling_why::tell_why;
 use words::Question;
@@ -33,61 +34,72 @@ fn lines_for(question: Question, number: u64) -> usize
     }
 }
 
-pub(crate) fn in_few(bytes: &[u8], question: Question, number: u64, area: &mut [u8; AREA])
+pub(crate) fn in_few(
+    rt: &impl Print,
+    bytes: &[u8],
+    question: Question,
+    number: u64,
+    area: &mut [u8; AREA],
+) -> io::Result<()>
     requires { HasRoom bytes.now question number 1000000 }
 {
     let mut cells = [0u32; FEW];
-    lend_few(bytes, question, number, &mut cells, area);
+    lend_few(rt, bytes, question, number, &mut cells, area)
 }
 
 fn lend_few(
+    rt: &impl Print,
     bytes: &[u8],
     question: Question,
     number: u64,
     cells: &mut [u32; FEW],
     area: &mut [u8; AREA],
-)
+) -> io::Result<()>
     requires { HasRoom bytes.now question number 1000000 }
 {
-    tell(bytes, question, number, cells, area);
+    tell(rt, bytes, question, number, cells, area)
 }
 
 // Many cells are enough for every sheet and every number that is in range.
-pub(crate) fn in_many(bytes: &[u8], question: Question, number: u64, area: &mut [u8; AREA]) {
+pub(crate) fn in_many(
+    rt: &impl Print,
+    bytes: &[u8],
+    question: Question,
+    number: u64,
+    area: &mut [u8; AREA],
+) -> io::Result<()> {
     let mut cells = [0u32; MANY];
-    lend_many(bytes, question, number, &mut cells, area);
+    lend_many(rt, bytes, question, number, &mut cells, area)
 }
 
 fn lend_many(
+    rt: &impl Print,
     bytes: &[u8],
     question: Question,
     number: u64,
     cells: &mut [u32; MANY],
     area: &mut [u8; AREA],
-) {
-    tell(bytes, question, number, cells, area);
+) -> io::Result<()> {
+    tell(rt, bytes, question, number, cells, area)
 }
 
 // The answer to a question that is asked with a number. A witness has at most a row for each tick.
-fn tell(bytes: &[u8], question: Question, number: u64, cells: &mut [u32], area: &mut [u8])
+fn tell(
+    rt: &impl Print,
+    bytes: &[u8],
+    question: Question,
+    number: u64,
+    cells: &mut [u32],
+    area: &mut [u8],
+) -> io::Result<()>
     requires has_room { HasRoom bytes.now question number (length cells.old) }
     requires longest_time_in_bounds { longest_time ≤ length area.old }
 {
     match question {
-        Question::Fits => {
-            tell_why(bytes, number, cells, area);
-        }
-        Question::Curve => {
-            tell_curve(bytes, number, cells, false);
-        }
-        Question::Chart => {
-            tell_curve(bytes, number, cells, true);
-        }
-        Question::At => {
-            tell_at(bytes, number, cells, area);
-        }
-        Question::Shortest => {
-            tell_shortest(bytes, number, cells);
-        }
+        Question::Fits => tell_why(rt, bytes, number, cells, area),
+        Question::Curve => tell_curve(rt, bytes, number, cells, false),
+        Question::Chart => tell_curve(rt, bytes, number, cells, true),
+        Question::At => tell_at(rt, bytes, number, cells, area),
+        Question::Shortest => tell_shortest(rt, bytes, number, cells),
     }
 }

@@ -3,9 +3,14 @@
 
 mod lending;
 
+ghost use Rattle.std.specs.Prelude.{◌≤◌, length};
+
 use fields::values::Sheet;
 use lending::{in_few, in_many, needs_many};
-use libc::{STDIN_FILENO, STDOUT_FILENO};
+use printing::read_full;
+use std::env::FillError;
+use std::io;
+use std::rt::Env;
 use words::{Asked, DIGITS, LETTERS, Question, Word, number_of, question_of};
 
 // The longest sheet that is read.
@@ -19,43 +24,54 @@ const MANY: usize = 4194304;
 // A witness has at most a row for each tick.
 const AREA: usize = 65535;
 
-fn main() {
-    // a word that is longer than this is handed over as an empty one
+fn main(rt: HostRuntime) -> io::Result<()> {
     let mut word = [0u8; LETTERS];
-    let size = os::arg(1, &mut word);
+    let size = word_at(&rt, 1, &mut word);
     match question_of(&word[..size]) {
-        Asked::Question(question) => {
-            ask(question);
-        }
-        Asked::NoQuestion => {
-            io::write_all(STDOUT_FILENO, b"usage: answers QUESTION [NUMBER]\n");
-        }
+        Asked::Question(question) => ask(&rt, question),
+        Asked::NoQuestion => rt.println("usage: answers QUESTION [NUMBER]"),
     }
 }
 
-fn ask(question: Question) {
-    match number_asked(question) {
+// Puts an argument at the start of the word, and says how long it is. One that is missing, or longer than the word, is handed over as an
+// empty one.
+fn word_at(rt: &impl Env, place: usize, word: &mut [u8]) -> usize
+    ensures { result ≤ length word.new }
+{
+    match rt.arg(place, word) {
+        Ok(size) => size,
+        Err(_) => 0,
+    }
+}
+
+fn has_word(rt: &impl Env, place: usize) -> bool {
+    match rt.arg(place, &mut []) {
+        Ok(_) => true,
+        Err(FillError::TooLong) => true,
+        Err(FillError::NotPresent) => false,
+    }
+}
+
+fn ask(rt: &(impl Env + Input + Print), question: Question) -> io::Result<()> {
+    match number_asked(rt, question) {
         Word::Number { value } => {
             let mut buffer = [0u8; LONGEST + 1];
-            lend_buffer(question, value, &mut buffer);
+            lend_buffer(rt, question, value, &mut buffer)
         }
-        Word::NoNumber => {
-            print_usage(question);
-        }
+        Word::NoNumber => print_usage(rt, question),
     }
 }
 
 // The number behind the question. Where there is none, a horizon is the longest; an interval or an amount has to be named.
-fn number_asked(question: Question) -> Word {
-    let count = os::arg_count();
-    if 3 < count {
+fn number_asked(rt: &impl Env, question: Question) -> Word {
+    if has_word(rt, 3) {
         return Word::NoNumber;
     }
-    if count < 3 {
+    if !has_word(rt, 2) {
         return without_number(question);
     }
     let mut word = [0u8; DIGITS];
-    let size = os::arg(2, &mut word);
+    let size = word_at(rt, 2, &mut word);
     number_of(&word[..size])
 }
 
@@ -72,50 +88,53 @@ fn without_number(question: Question) -> Word {
     }
 }
 
-fn print_usage(question: Question) {
+fn print_usage(rt: &impl Print, question: Question) -> io::Result<()> {
     match question {
-        Question::Fits => {
-            io::write_all(STDOUT_FILENO, b"usage: fits [HORIZON]\n");
-        }
-        Question::Curve => {
-            io::write_all(STDOUT_FILENO, b"usage: curve [HORIZON]\n");
-        }
-        Question::Chart => {
-            io::write_all(STDOUT_FILENO, b"usage: chart [HORIZON]\n");
-        }
-        Question::At => {
-            io::write_all(STDOUT_FILENO, b"usage: at INTERVAL\n");
-        }
-        Question::Shortest => {
-            io::write_all(STDOUT_FILENO, b"usage: shortest AMOUNT\n");
-        }
+        Question::Fits => rt.println("usage: fits [HORIZON]"),
+        Question::Curve => rt.println("usage: curve [HORIZON]"),
+        Question::Chart => rt.println("usage: chart [HORIZON]"),
+        Question::At => rt.println("usage: at INTERVAL"),
+        Question::Shortest => rt.println("usage: shortest AMOUNT"),
     }
 }
 
-fn lend_buffer(question: Question, number: u64, buffer: &mut [u8; LONGEST + 1]) {
-    read_sheet(question, number, buffer);
+fn lend_buffer(
+    rt: &(impl Input + Print),
+    question: Question,
+    number: u64,
+    buffer: &mut [u8; LONGEST + 1],
+) -> io::Result<()> {
+    read_sheet(rt, question, number, buffer)
 }
 
-fn read_sheet(question: Question, number: u64, buffer: &mut [u8]) {
-    let size = io::read_full(STDIN_FILENO, buffer);
+fn read_sheet(
+    rt: &(impl Input + Print),
+    question: Question,
+    number: u64,
+    buffer: &mut [u8],
+) -> io::Result<()> {
+    let size = read_full(&mut rt.reader(), buffer)?;
     if LONGEST < size {
-        io::write_all(STDOUT_FILENO, b"too long\n");
-        return;
+        return rt.println("too long");
     }
-    answer(&buffer[..size], question, number, false);
+    answer(rt, &buffer[..size], question, number, false)
 }
 
 // Answers in few cells, or in many where few are not enough. That it calls itself keeps the arrays of both in frames of their own: the
 // compiler takes no large array into a function that does.
-fn answer(bytes: &[u8], question: Question, number: u64, many: bool) {
+fn answer(
+    rt: &impl Print,
+    bytes: &[u8],
+    question: Question,
+    number: u64,
+    many: bool,
+) -> io::Result<()> {
     let mut area = [0u8; AREA];
     if many {
-        in_many(bytes, question, number, &mut area);
-        return;
+        return in_many(rt, bytes, question, number, &mut area);
     }
     if needs_many(bytes, question, number) {
-        answer(bytes, question, number, true);
-        return;
+        return answer(rt, bytes, question, number, true);
     }
-    in_few(bytes, question, number, &mut area);
+    in_few(rt, bytes, question, number, &mut area)
 }

@@ -7,9 +7,9 @@ ghost use Rattle.sheet.specs.Judging.{judged};
 ghost use Rattle.sheet.specs.declared.Answer.TheVariants.{Accepted};
 ghost use Rattle.beginning.specs.Beginning.{rows as rows_of};
 
-use libc::{STDIN_FILENO, STDOUT_FILENO};
-use printing::{print_curve, print_refusal, print_verdict};
+use printing::{print_curve, print_refusal, print_verdict, read_full};
 use sheet::Answer;
+use std::io;
 use steps::horizon_of;
 
 // The longest sheet that is read, and the cells to work in.
@@ -17,32 +17,29 @@ const LONGEST: usize = 8192;
 
 const CELLS: usize = 12000;
 
-fn main() {
+fn main(rt: HostRuntime) -> io::Result<()> {
     let mut buffer = [0u8; LONGEST + 1];
-    let size = io::read_full(STDIN_FILENO, &mut buffer);
+    let size = read_full(&mut rt.reader(), &mut buffer)?;
     if LONGEST < size {
-        io::write_all(STDOUT_FILENO, b"too long\n");
-        return;
+        return rt.println("too long");
     }
-    print_sheet(&buffer[..size]);
+    print_sheet(&rt, &buffer[..size])
 }
 
-fn print_sheet(bytes: &[u8]) {
+fn print_sheet(rt: &impl Print, bytes: &[u8]) -> io::Result<()> {
     let judged = sheet::judge(bytes);
     let answer = judged.answer;
     match answer {
         Answer::Accepted => {
             let tally = judged.sheet.tally;
-            print_accepted(bytes, tally.rows);
+            print_accepted(rt, bytes, tally.rows)
         }
-        Answer::Refused { number, place } => {
-            print_refusal(number, place);
-        }
+        Answer::Refused { number, place } => print_refusal(rt, number, place),
     }
 }
 
 // One table of cells serves the verdict and the steps.
-fn print_accepted(bytes: &[u8], rows: usize)
+fn print_accepted(rt: &impl Print, bytes: &[u8], rows: usize) -> io::Result<()>
     requires bytes_value { (judged bytes.now).answer ≡ Accepted }
     requires rows_value { rows ≡ rows_of bytes.now }
     requires le_rows { (1 ≤ rows) × (rows ≤ row_limit) }
@@ -50,6 +47,6 @@ fn print_accepted(bytes: &[u8], rows: usize)
     let mut cells = [0u32; CELLS];
     let horizon = horizon_of(CELLS, rows);
     let verdict = desk::verdict_by_interval(bytes, horizon as u64, &mut cells);
-    print_curve(bytes, &cells, rows, horizon);
-    print_verdict(verdict);
+    print_curve(rt, bytes, &cells, rows, horizon)?;
+    print_verdict(rt, verdict)
 }

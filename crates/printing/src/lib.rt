@@ -1,97 +1,94 @@
 // The lines that programs print on standard output: a curve with its verdict, a refusal, a witness, and words with numbers.
 #![tactic(auto)]
 
+mod reading;
+
 ghost use Rattle.std.specs.Prelude.{◌+◌, ◌*◌, ◌≤◌, length};
 ghost use Rattle.meaning.specs.Demand.{longest_time};
 ghost use Rattle.printing.specs.Showing.{ShowsCurve};
 
 use desk::VerdictAnswer;
-use libc::STDOUT_FILENO;
+pub use reading::read_full;
+use std::io;
 use steps::next_rise;
 use tables::interval::demand_of;
 
 // The label, the horizon, and a step for each interval up to it at which the engine's demand rises.
-pub fn print_curve(bytes: &[u8], cells: &[u32], rows: usize, horizon: usize)
+pub fn print_curve(
+    rt: &impl Print,
+    bytes: &[u8],
+    cells: &[u32],
+    rows: usize,
+    horizon: usize,
+) -> io::Result<()>
     requires { ShowsCurve bytes.now rows horizon cells.now }
 {
-    print_head(bytes, b"horizon ", horizon as u64);
-    print_steps(cells, rows, horizon);
+    print_head(rt, bytes, b"horizon ", horizon as u64)?;
+    print_steps(rt, cells, rows, horizon)
 }
 
-fn print_steps(cells: &[u32], rows: usize, horizon: usize)
+fn print_steps(rt: &impl Print, cells: &[u32], rows: usize, horizon: usize) -> io::Result<()>
     requires horizon_le_longest_time { horizon ≤ longest_time }
     requires horizon_in_bounds { rows * (horizon + 1) ≤ length cells.now }
 {
     let mut interval = next_rise(cells, rows, horizon, 1);
     while interval <= horizon {
-        print_step(interval, demand_of(cells, rows, interval));
+        print_step(rt, interval, demand_of(cells, rows, interval))?;
         interval = next_rise(cells, rows, horizon, interval + 1);
     }
+    Ok(())
 }
 
-fn print_step(interval: usize, amount: u32) {
-    print_rise(b"step ", interval, amount as u64);
+fn print_step(rt: &impl Print, interval: usize, amount: u32) -> io::Result<()> {
+    print_rise(rt, b"step ", interval, amount as u64)
 }
 
 // An interval behind a word for what rises there, and its new amount.
-pub fn print_rise(word: &[u8], interval: usize, amount: u64) {
-    io::write_all(STDOUT_FILENO, word);
-    io::print_decimal(STDOUT_FILENO, interval as u64);
-    print_number(b" ", amount);
+pub fn print_rise(rt: &impl Print, word: &[u8], interval: usize, amount: u64) -> io::Result<()> {
+    rt.write_all(word)?;
+    println!(rt; "{interval} {amount}")
 }
 
-pub fn print_verdict(verdict: VerdictAnswer) {
+pub fn print_verdict(rt: &impl Print, verdict: VerdictAnswer) -> io::Result<()> {
     match verdict {
-        VerdictAnswer::Holds => {
-            io::write_all(STDOUT_FILENO, b"holds\n");
-        }
-        VerdictAnswer::Overrun { interval } => {
-            print_number(b"fails ", interval);
-        }
-        VerdictAnswer::Refused { number, place } => {
-            print_refusal(number, place);
-        }
+        VerdictAnswer::Holds => rt.println("holds"),
+        VerdictAnswer::Overrun { interval } => print_number(rt, b"fails ", interval),
+        VerdictAnswer::Refused { number, place } => print_refusal(rt, number, place),
     }
 }
 
-pub fn print_refusal(number: u8, place: usize) {
-    io::write_all(STDOUT_FILENO, b"refused ");
-    io::print_decimal(STDOUT_FILENO, number as u64);
-    print_number(b" at ", place as u64);
+pub fn print_refusal(rt: &impl Print, number: u8, place: usize) -> io::Result<()> {
+    println!(rt; "refused {number} at {place}")
 }
 
-// The sheet's label, and the number that it is asked with.
-pub fn print_head(bytes: &[u8], word: &[u8], number: u64) {
-    io::write_all(STDOUT_FILENO, b"label ");
-    io::write_all(STDOUT_FILENO, sheet::label(bytes));
-    io::write_all(STDOUT_FILENO, b"\n");
-    print_number(word, number);
+// The sheet's label, and the number that it is asked with. A label is printed as the bytes that it has, text or not.
+pub fn print_head(rt: &impl Print, bytes: &[u8], word: &[u8], number: u64) -> io::Result<()> {
+    rt.print("label ")?;
+    rt.write_all(sheet::label(bytes))?;
+    rt.println("")?;
+    print_number(rt, word, number)
 }
 
 // The number that ends a line, behind its words.
-pub fn print_number(words: &[u8], number: u64) {
-    io::write_all(STDOUT_FILENO, words);
-    io::print_decimal(STDOUT_FILENO, number);
-    io::write_all(STDOUT_FILENO, b"\n");
+pub fn print_number(rt: &impl Print, words: &[u8], number: u64) -> io::Result<()> {
+    rt.write_all(words)?;
+    rt.println(number)
 }
 
 // The rows of a witness. Where the engine task asks for nothing there is none, and no line.
-pub fn print_rows(area: &[u8], count: usize)
+pub fn print_rows(rt: &impl Print, area: &[u8], count: usize) -> io::Result<()>
     requires { count ≤ length area.now }
 {
     if count == 0 {
-        return;
+        return Ok(());
     }
-    io::write_all(STDOUT_FILENO, b"by");
-    let mut i: usize = 0;
-    while i < count {
-        print_row(area[i]);
-        i += 1;
+    rt.print("by")?;
+    for row in &area[..count] {
+        print_row(rt, *row)?;
     }
-    io::write_all(STDOUT_FILENO, b"\n");
+    rt.println("")
 }
 
-fn print_row(row: u8) {
-    io::write_all(STDOUT_FILENO, b" ");
-    io::print_decimal(STDOUT_FILENO, row as u64);
+fn print_row(rt: &impl Print, row: u8) -> io::Result<()> {
+    print!(rt; " {row}")
 }

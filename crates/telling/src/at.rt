@@ -6,6 +6,7 @@ ghost use Rattle.telling.specs.Told.{DemandTold, MarginTold, sign_of};
 
 use desk::{DemandAnswer, MarginAnswer, demand, margin};
 use printing::{print_head, print_number, print_refusal, print_rows};
+use std::io;
 
 // A margin as it is printed: so much is left of the interval, or so much is missing.
 #[derive(Clone, Copy)]
@@ -15,51 +16,54 @@ pub(crate) enum Signed {
 }
 
 // Each call fills the table anew: the calls share no cells.
-pub fn tell_at(bytes: &[u8], interval: u64, cells: &mut [u32], area: &mut [u8])
+pub fn tell_at(
+    rt: &impl Print,
+    bytes: &[u8],
+    interval: u64,
+    cells: &mut [u32],
+    area: &mut [u8],
+) -> io::Result<()>
     requires room_to_interval { RoomToInterval bytes.now interval (length cells.old) }
     requires longest_time_in_bounds { longest_time ≤ length area.old }
 {
     let found = demand(bytes, interval, cells, area);
     let left = margin(bytes, interval, cells);
-    print_at(bytes, interval, found, left, area);
+    print_at(rt, bytes, interval, found, left, area)
 }
 
-fn print_at(bytes: &[u8], interval: u64, found: DemandAnswer, left: MarginAnswer, area: &[u8])
+fn print_at(
+    rt: &impl Print,
+    bytes: &[u8],
+    interval: u64,
+    found: DemandAnswer,
+    left: MarginAnswer,
+    area: &[u8],
+) -> io::Result<()>
     requires demand_told { DemandTold bytes.now interval area.now found }
     requires margin_told { MarginTold bytes.now interval left }
 {
     match found {
-        DemandAnswer::Refused { number, place } => {
-            print_refusal(number, place);
-        }
+        DemandAnswer::Refused { number, place } => print_refusal(rt, number, place),
         DemandAnswer::Found { amount, count } => {
-            print_head(bytes, b"interval ", interval);
-            print_number(b"demand ", amount as u64);
-            print_rows(area, count);
-            print_margin(left);
+            print_head(rt, bytes, b"interval ", interval)?;
+            print_number(rt, b"demand ", amount as u64)?;
+            print_rows(rt, area, count)?;
+            print_margin(rt, left)
         }
     }
 }
 
-fn print_margin(left: MarginAnswer) {
+fn print_margin(rt: &impl Print, left: MarginAnswer) -> io::Result<()> {
     match left {
-        MarginAnswer::Refused { number, place } => {
-            print_refusal(number, place);
-        }
-        MarginAnswer::Found { margin } => {
-            print_signed(sign_of(margin));
-        }
+        MarginAnswer::Refused { number, place } => print_refusal(rt, number, place),
+        MarginAnswer::Found { margin } => print_signed(rt, sign_of(margin)),
     }
 }
 
-fn print_signed(margin: Signed) {
+fn print_signed(rt: &impl Print, margin: Signed) -> io::Result<()> {
     match margin {
-        Signed::Spare(size) => {
-            print_number(b"margin ", size);
-        }
-        Signed::Missing(size) => {
-            print_number(b"margin -", size);
-        }
+        Signed::Spare(size) => print_number(rt, b"margin ", size),
+        Signed::Missing(size) => print_number(rt, b"margin -", size),
     }
 }
 

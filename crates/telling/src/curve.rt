@@ -13,21 +13,27 @@ use fields::values::{Sheet, Task};
 use overruns::tasks::fixed_sum;
 use printing::{print_curve, print_rise, print_verdict};
 use sheet::judge;
+use std::io;
 use steps::next_fixed_rise;
 
-pub fn tell_curve(bytes: &[u8], horizon: u64, cells: &mut [u32], with_fixed: bool)
+pub fn tell_curve(
+    rt: &impl Print,
+    bytes: &[u8],
+    horizon: u64,
+    cells: &mut [u32],
+    with_fixed: bool,
+) -> io::Result<()>
     requires { RoomToInterval bytes.now horizon (length cells.old) }
 {
     let verdict = find_curve(bytes, horizon, cells);
     if refused(verdict) {
-        print_verdict(verdict);
-        return;
+        return print_verdict(rt, verdict);
     }
-    print_curve(bytes, cells, rows_of(bytes), horizon as usize);
+    print_curve(rt, bytes, cells, rows_of(bytes), horizon as usize)?;
     if with_fixed {
-        print_fixed(bytes, horizon as usize);
+        print_fixed(rt, bytes, horizon as usize)?;
     }
-    print_verdict(verdict);
+    print_verdict(rt, verdict)
 }
 
 // One table of cells serves the verdict and the steps.
@@ -60,7 +66,7 @@ pub fn rows_of(bytes: &[u8]) -> usize
     tally.rows
 }
 
-fn print_fixed(bytes: &[u8], horizon: usize)
+fn print_fixed(rt: &impl Print, bytes: &[u8], horizon: usize) -> io::Result<()>
     requires bytes_value { (judged bytes.now).answer ≡ Accepted }
     requires horizon_le_longest_time { horizon ≤ longest_time }
 {
@@ -68,21 +74,27 @@ fn print_fixed(bytes: &[u8], horizon: usize)
     let sheet = judged.sheet;
     let tally = sheet.tally;
     let tasks = sheet.tasks;
-    print_fixed_rises(tasks, tally.tasks, horizon);
+    print_fixed_rises(rt, tasks, tally.tasks, horizon)
 }
 
 // A line for each interval up to the horizon at which the demand of the fixed tasks rises.
-fn print_fixed_rises(tasks: [Task; Sheet::TASKS], count: usize, horizon: usize)
+fn print_fixed_rises(
+    rt: &impl Print,
+    tasks: [Task; Sheet::TASKS],
+    count: usize,
+    horizon: usize,
+) -> io::Result<()>
     requires proper_tasks { ProperTasks tasks count }
     requires horizon_le_longest_time { horizon ≤ longest_time }
 {
     let mut interval = next_fixed_rise(tasks, count, horizon, 1);
     while interval <= horizon {
-        print_fixed_rise(interval, fixed_sum(tasks, count, interval));
+        print_fixed_rise(rt, interval, fixed_sum(tasks, count, interval))?;
         interval = next_fixed_rise(tasks, count, horizon, interval + 1);
     }
+    Ok(())
 }
 
-fn print_fixed_rise(interval: usize, amount: u64) {
-    print_rise(b"fixed ", interval, amount);
+fn print_fixed_rise(rt: &impl Print, interval: usize, amount: u64) -> io::Result<()> {
+    print_rise(rt, b"fixed ", interval, amount)
 }

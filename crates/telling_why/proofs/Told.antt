@@ -1,7 +1,7 @@
 -- Where `explain` is lent room enough, what it answers may be printed.
 use Prim.Native.Nat.{ℕ, ◌+◌, ◌≤◌}
 use native.Mathlib.Omega.{arith}
-use mathlib.Core.Path.{◌≡◌, ap, subst, subst⁻¹}
+use mathlib.Core.Path.{◌≡◌, ap, subst⁻¹}
 use mathlib.Core.List.{List}
 use lib.Dec.{eqb}
 use lib.IntN.{pos}

@@ -10,35 +10,43 @@ ghost use Rattle.telling_why.specs.Told.{ExplainTold};
 
 use explain::{Cause, ExplainAnswer, Explained, explain};
 use fields::values::Sheet;
-use libc::STDOUT_FILENO;
 use printing::{print_head, print_number, print_refusal, print_rows};
 use sheet::judge;
+use std::io;
 
-pub fn tell_why(bytes: &[u8], horizon: u64, cells: &mut [u32], area: &mut [u8])
+pub fn tell_why(
+    rt: &impl Print,
+    bytes: &[u8],
+    horizon: u64,
+    cells: &mut [u32],
+    area: &mut [u8],
+) -> io::Result<()>
     requires room_to_interval { RoomToInterval bytes.now horizon (length cells.old) }
     requires longest_time_in_bounds { longest_time ≤ length area.old }
 {
     let explained = explain(bytes, horizon, cells, area);
-    print_explained(bytes, horizon, explained, area);
+    print_explained(rt, bytes, horizon, explained, area)
 }
 
-fn print_explained(bytes: &[u8], horizon: u64, explained: Explained, area: &[u8])
+fn print_explained(
+    rt: &impl Print,
+    bytes: &[u8],
+    horizon: u64,
+    explained: Explained,
+    area: &[u8],
+) -> io::Result<()>
     requires { ExplainTold bytes.now horizon area.now explained explained.answer }
 {
     let answer = explained.answer;
     match answer {
-        ExplainAnswer::Refused { number, place } => {
-            print_refusal(number, place);
-        }
+        ExplainAnswer::Refused { number, place } => print_refusal(rt, number, place),
         ExplainAnswer::Holds { margin, interval } => {
-            print_head(bytes, b"horizon ", horizon);
-            io::write_all(STDOUT_FILENO, b"holds\nmargin ");
-            io::print_decimal(STDOUT_FILENO, margin);
-            print_number(b" at ", interval);
+            print_head(rt, bytes, b"horizon ", horizon)?;
+            println!(rt; "holds\nmargin {margin} at {interval}")
         }
         ExplainAnswer::NoInterval => {
-            print_head(bytes, b"horizon ", horizon);
-            io::write_all(STDOUT_FILENO, b"holds\n");
+            print_head(rt, bytes, b"horizon ", horizon)?;
+            rt.println("holds")
         }
         ExplainAnswer::Fails {
             interval,
@@ -47,43 +55,38 @@ fn print_explained(bytes: &[u8], horizon: u64, explained: Explained, area: &[u8]
             excess,
             count,
         } => {
-            print_head(bytes, b"horizon ", horizon);
-            print_number(b"fails ", interval);
-            print_cause(cause);
-            print_number(b"engine ", engine as u64);
-            print_rows(area, count);
+            print_head(rt, bytes, b"horizon ", horizon)?;
+            print_number(rt, b"fails ", interval)?;
+            print_cause(rt, cause)?;
+            print_number(rt, b"engine ", engine as u64)?;
+            print_rows(rt, area, count)?;
             let demands = explained.demands;
-            print_tasks(tasks_of(bytes), demands);
-            print_number(b"excess ", excess);
+            print_tasks(rt, tasks_of(bytes), demands)?;
+            print_number(rt, b"excess ", excess)
         }
     }
 }
 
-fn print_cause(cause: Cause) {
+fn print_cause(rt: &impl Print, cause: Cause) -> io::Result<()> {
     match cause {
-        Cause::Engine => {
-            io::write_all(STDOUT_FILENO, b"cause engine\n");
-        }
-        Cause::Fixed => {
-            io::write_all(STDOUT_FILENO, b"cause fixed\n");
-        }
-        Cause::Together => {
-            io::write_all(STDOUT_FILENO, b"cause together\n");
-        }
+        Cause::Engine => rt.println("cause engine"),
+        Cause::Fixed => rt.println("cause fixed"),
+        Cause::Together => rt.println("cause together"),
     }
 }
 
 // What each of a number of fixed tasks asks for.
-fn print_tasks(tasks: usize, demands: [u64; Sheet::TASKS])
+fn print_tasks(rt: &impl Print, tasks: usize, demands: [u64; Sheet::TASKS]) -> io::Result<()>
     requires { tasks ≤ task_limit }
 {
-    let mut i: usize = 0;
-    while i < tasks {
-        io::write_all(STDOUT_FILENO, b"task ");
-        io::print_decimal(STDOUT_FILENO, i as u64);
-        print_number(b" ", demands[i]);
-        i += 1;
+    for task in 0..tasks {
+        print_task(rt, task, demands[task])?;
     }
+    Ok(())
+}
+
+fn print_task(rt: &impl Print, task: usize, demand: u64) -> io::Result<()> {
+    println!(rt; "task {task} {demand}")
 }
 
 // How many fixed tasks a sheet has, none where it is refused.

@@ -1,0 +1,9 @@
+-- The call is lent cells enough, and the area takes every witness.
+use native.Mathlib.Omega.{arith}
+use Rattle.telling_why.proofs.Told.{explain_told}
+use Rattle.telling_why.proofs.tell_why.Goals as goal
+
+pub print_explained-requires : goal.print_explained-requires
+print_explained-requires g c =
+    explain_told _ (λ i. omega (arith, c.type_inv.bytes i)) _ _ _ _ _ _ c.requires.room_to_interval
+    c.requires.longest_time_in_bounds c.explain-explained.ensures
