@@ -35,7 +35,7 @@ each_at (task ∷ tasks) (suc i) default h = each_at tasks i default (omega arit
 
 -- the tasks that an accepted sheet counts are proper
 pub sheet_tasks : (bytes : List ℕ) (sheet : Sheet) → Proper bytes sheet → ProperTasks sheet.tasks sheet.tally.tasks
-sheet_tasks bytes sheet proper = record { most = proper.tasks_most; each = proper.each_task_lem }
+sheet_tasks bytes sheet proper = record { most = proper.tasks_most; each = proper.each_task }
 
 -- what fixed demand needs of a task: its length and period are in range, and its jitter is below its deadline
 record ProperTimes (task : fixed.Task) : Type 0 where

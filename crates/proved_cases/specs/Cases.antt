@@ -9,7 +9,7 @@ use Rattle.beginning.specs.Beginning.{graph, tasks}
 use Rattle.desk.specs.Calls.{ShortestCall}
 use Rattle.desk.specs.Agreement.{WithRoom}
 use Rattle.desk.specs.declared.ShortestAnswer.{ShortestAnswer}
-use Rattle.proved_cases.specs.Sheets.{sheet_a, sheet_aWith_task, sheet_b, sheet_hangs_on, sheet_late_release}
+use Rattle.proved_cases.specs.Sheets.{sheet_a, sheet_a_with_task, sheet_b, sheet_hangs_on, sheet_late_release}
 
 -- a value of a sheet: its demand at an interval, with or without the witness, its shortest interval for an amount, its margin; or the number by which `shortest` refuses an amount
 pub data Case : Type 0 where
@@ -50,8 +50,8 @@ cases =
     ∷ shortest sheet_a 1 3
     ∷ shortest sheet_a 7 9
     ∷ shortest sheet_a 10 13
-    ∷ margin sheet_aWith_task 4 (negsuc 0)
-    ∷ margin sheet_aWith_task 3 (pos 0)
+    ∷ margin sheet_a_with_task 4 (negsuc 0)
+    ∷ margin sheet_a_with_task 3 (pos 0)
     ∷ witness sheet_b 5 4 (0 ∷ [])
     ∷ refused sheet_b 5 14
     ∷ witness sheet_hangs_on 14 10 (1 ∷ 2 ∷ [])

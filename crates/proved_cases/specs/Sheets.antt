@@ -21,8 +21,8 @@ abbrev pub sheet_a : List ℕ
 sheet_a = rows_of_a ++ end
 
 -- sheet A with a fixed task of length 2, period 10, deadline 4
-abbrev pub sheet_aWith_task : List ℕ
-sheet_aWith_task = rows_of_a ++ (4 ∷ 0 ∷ 6 ∷ 0 ∷ 2 ∷ 0 ∷ 10 ∷ 0 ∷ 4 ∷ []) ++ end
+abbrev pub sheet_a_with_task : List ℕ
+sheet_a_with_task = rows_of_a ++ (4 ∷ 0 ∷ 6 ∷ 0 ∷ 2 ∷ 0 ∷ 10 ∷ 0 ∷ 4 ∷ []) ++ end
 
 -- one mode up to 3,000 rpm with length 4; rows at 2,000 and 3,000 rpm, both with deadline 5 and no followers
 abbrev pub sheet_b : List ℕ

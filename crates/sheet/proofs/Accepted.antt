@@ -67,7 +67,7 @@ whole bytes sheet g seen followers =
             gap_most = row.gap_most;
             followers_exist = λ j set. followers_kept sheet.rows sheet.tally.rows followers k h j (omega (arith, row.followers_exist j set)) set;
           };
-      each_task_lem = g.tasks.each;
+      each_task = g.tasks.each;
       boundaries_rise = g.boundaries.rise;
       fallbacks_least = g.fallbacks;
       last_fallback = omega (arith, g.last_fallback (sheet.tally.modes - 1) (omega arith), g.last_plain seen, g.boundaries.ends (sheet.tally.modes - 1) (omega arith));

@@ -58,7 +58,7 @@ pub record Proper (bytes : List ℕ) (sheet : Sheet) : Type 0 where
   pub tasks_most : sheet.tally.tasks ≤ task_limit
   pub each_mode : (k : ℕ) → k < sheet.tally.modes → ProperMode (get_or sheet.modes k no_mode)
   pub each_row : (k : ℕ) → k < sheet.tally.rows → ProperRow bytes sheet.tally.rows (row_of sheet k)
-  pub each_task_lem : (k : ℕ) → k < sheet.tally.tasks → ProperTask (get_or sheet.tasks k no_task)
+  pub each_task : (k : ℕ) → k < sheet.tally.tasks → ProperTask (get_or sheet.tasks k no_task)
   pub boundaries_rise : (k : ℕ) → k + 1 < sheet.tally.modes → (get_or sheet.modes k no_mode).boundary.0 < (get_or sheet.modes (k + 1) no_mode).boundary.0
   pub fallbacks_least : (k : ℕ) → k + 1 < sheet.tally.modes → (get_or sheet.modes k no_mode).boundary.0 ≤ (get_or sheet.modes (k + 1) no_mode).fallback.0
   pub last_fallback : (get_or sheet.modes (sheet.tally.modes - 1) no_mode).fallback.0 ≡ (get_or sheet.modes (sheet.tally.modes - 1) no_mode).boundary.0
