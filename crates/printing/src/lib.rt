@@ -1,4 +1,4 @@
-// The lines that programs print on standard output: a curve with its verdict, a refusal, a witness, and words with numbers.
+// The lines that programs print on standard output: a curve with its verdict, a refusal, a witness, and words with numbers; and how they read standard input.
 #![tactic(auto)]
 
 mod reading;

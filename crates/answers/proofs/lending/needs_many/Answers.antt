@@ -1,5 +1,5 @@
 -- A number that is out of range takes no cells, and of one in range the product of rows and lines is small.
-use Prim.Native.Nat.{◌+◌, ◌*◌, ◌≤◌}
+use Prim.Native.Nat.{◌+◌, ◌≤◌}
 use native.Mathlib.Nat.{mul-le-mul}
 use native.Mathlib.Omega.{arith}
 use Rattle.meaning.specs.Demand.{longest_time}
