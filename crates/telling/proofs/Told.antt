@@ -3,6 +3,7 @@ use Prim.Native.Nat.{ℕ, ◌+◌, ◌≤◌}
 use native.Mathlib.Omega.{arith}
 use mathlib.Core.Path.{◌≡◌, refl, subst, subst⁻¹}
 use mathlib.Core.Logic.{inl, inr, ⊎_elim}
+use mathlib.Core.Bool.{true, false, true≢false}
 use mathlib.Core.List.{List}
 use lib.Dec.{eqb}
 use lib.ListN.{length}
@@ -19,10 +20,18 @@ use Rattle.desk.specs.declared.MarginAnswer.{MarginAnswer}
 use Rattle.desk.specs.declared.ShortestAnswer.{ShortestAnswer}
 use Rattle.desk.specs.declared.ShortestAnswer.TheVariants as shortest-case
 use Rattle.desk.specs.declared.VerdictAnswer.{VerdictAnswer}
+use Rattle.desk.specs.declared.VerdictAnswer.TheVariants as verdict-case
 use Rattle.printing.proofs.Showing.{shows_curve}
 use Rattle.printing.specs.Refusals.{bad_interval, RoomToInterval, RoomToAmount}
 use Rattle.printing.proofs.Refusals.{with_room, shown_inside}
-use Rattle.telling.specs.Told.{CurveOf, CurveTold, DemandTold, MarginTold, ShortestTold}
+use Rattle.telling.specs.Told.{is_refused, CurveOf, CurveTold, DemandTold, MarginTold, ShortestTold}
+
+-- a verdict that is no refusal has its curve
+pub curve_there : (bytes : List ℕ) (horizon : ℕ) (cells : List ℕ) (answer : VerdictAnswer) → is_refused answer ≡ false → CurveTold bytes horizon cells answer
+    → (v : Verdict) × CurveOf bytes horizon cells v
+curve_there bytes horizon cells verdict-case.Holds there told = (holds, told)
+curve_there bytes horizon cells (verdict-case.Overrun t) there told = (overrun t, told)
+curve_there bytes horizon cells (verdict-case.Refused number place) there told = absurd (true≢false there)
 
 module _ (bytes : List ℕ) (are : Bytes bytes) where
   module _ (t : ℕ) (cells : List ℕ) (enough : RoomToInterval bytes t (length cells)) where
