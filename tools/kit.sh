@@ -27,7 +27,7 @@ is_built() {
 }
 
 # One build at a time in a checkout: rt works in the out/ of each crate, and what comes of that is put into target/. The lock's file is in
-# neither, as they may be removed. What rt has started holds the lock too, so it is free once all of that has ended.
+# neither, as they may be removed. The rt that is started holds the lock too, so it is not free before that has ended.
 lock_target() {
     local file=$home/target.lock place
     for place in "$home/target" "$home/crates"; do
