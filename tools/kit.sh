@@ -27,7 +27,7 @@ is_built() {
 }
 
 # One build at a time in a checkout: rt works in the out/ of each crate, and what comes of that is put into target/. The lock's file is in
-# neither, as they may be removed. What rt has started holds the lock too, so it is free once all of that has ended.
+# neither, as they may be removed. The rt that is started holds the lock too, so it is not free before that has ended.
 lock_target() {
     local file=$home/target.lock place
     for place in "$home/target" "$home/crates"; do
@@ -44,16 +44,15 @@ free_target() {
     exec 9>&-
 }
 
-# The crates that one is made of, lowest first and itself last, which is the order in which rt builds them. With a second word only those
-# that it names itself.
+# The crates that one is made of, lowest first and itself last, which is the order in which rt builds them.
 crates_of() {
-    awk -v crate="$1" -v named="${2-}" '
+    awk -v crate="$1" '
         function reach(name, words, n, i) {
             if (!(name in needs) || name in seen) return
             seen[name]
             n = split(needs[name], words, " ")
-            for (i = 1; i <= n; i++) if (named == "" || name == crate) reach(words[i])
-            if (named == "" || name != crate) print name
+            for (i = 1; i <= n; i++) reach(words[i])
+            print name
         }
         { sub(/#.*/, "") }
         /:/ { name = $1; sub(/:.*/, "", name); sub(/^[^:]*:/, ""); needs[name] = $0 }
@@ -129,24 +128,7 @@ make_program() {
 
 # Makes the archive, for every x86-64 processor, and puts it where it has its name.
 make_archive() {
-    run_rt marnipode_c lib --cpu=x86-64 && take_archive
-}
-
-take_archive() {
-    install -m 644 "$home/crates/marnipode_c/out/libmarnipode_c.a" "$archive"
-}
-
-# Makes the archive over the libraries that `rt ci` has left, by the kit's own command: rt itself would prove them all once more.
-make_archive_over_proved() {
-    local kit crate words=()
-    kit=$(dirname "$(rt doc)")
-    for crate in $(crates_of marnipode_c named); do words+=(--extern "$crate=$home/crates/$crate/out/rlib/$crate.rlib"); done
-    for crate in $(crates_of marnipode_c); do words+=(-L "dependency=$home/crates/$crate/out/rlib"); done
-    mkdir -p "$home/target"
-    (cd "$home/crates/marnipode_c" && mkdir -p out && "$kit/bin/rattle" build --crate-name marnipode_c src/lib.rt --extern "std=$kit/rlibs/std.rlib" \
-        -L "dependency=$kit/rlibs" "${words[@]}" --antt-project "$kit/rattle/logic/antt-project.json" --logic-built "$kit/logic_built" \
-        --jobs 2 --crate-type staticlib --cpu=x86-64 --toolchain "$kit/toolchain" --backend llvm -o out/libmarnipode_c.a) \
-        >"$home/target/marnipode_c.log" 2>&1 && take_archive
+    run_rt marnipode_c lib --cpu=x86-64 && install -m 644 "$home/crates/marnipode_c/out/libmarnipode_c.a" "$archive"
 }
 
 # Makes a file by a command unless it stands. An edit elsewhere leaves the file as it was, so its time is set here.
