@@ -12,7 +12,7 @@ use words::Question;
 
 // Whether few cells are too few. A number that is out of range takes none.
 pub(crate) fn needs_many(bytes: &[u8], question: Question, number: u64) -> bool
-    ensures { result ≡ false → HasRoom bytes.now question number 1000000 }
+    ensures { result ≡ false → HasRoom bytes.now question number FEW }
 {
     if (Sheet::TICKS.0 as u64) + 1 < number {
         return false;
@@ -26,61 +26,24 @@ fn lines_for(question: Question, number: u64) -> usize
 {
     let lines = number as usize;
     match question {
-        Question::Fits => lines + 1,
-        Question::Curve => lines + 1,
-        Question::Chart => lines + 1,
-        Question::At => lines + 1,
+        Question::Fits | Question::Curve | Question::Chart | Question::At => lines + 1,
         Question::Shortest => lines,
     }
 }
 
-pub(crate) fn in_few(
+// The answer, in so many cells, which are enough for it.
+pub(crate) fn tell_in<const CELLS: usize>(
     rt: &impl Print,
     bytes: &[u8],
     question: Question,
     number: u64,
     area: &mut [u8; AREA],
 ) -> io::Result<()>
-    requires { HasRoom bytes.now question number 1000000 }
+    requires room { HasRoom bytes.now question number CELLS }
+    requires at_most_many { CELLS ≤ MANY }
 {
-    let mut cells = [0u32; FEW];
-    lend_few(rt, bytes, question, number, &mut cells, area)
-}
-
-fn lend_few(
-    rt: &impl Print,
-    bytes: &[u8],
-    question: Question,
-    number: u64,
-    cells: &mut [u32; FEW],
-    area: &mut [u8; AREA],
-) -> io::Result<()>
-    requires { HasRoom bytes.now question number 1000000 }
-{
-    tell(rt, bytes, question, number, cells, area)
-}
-
-// Many cells are enough for every sheet and every number that is in range.
-pub(crate) fn in_many(
-    rt: &impl Print,
-    bytes: &[u8],
-    question: Question,
-    number: u64,
-    area: &mut [u8; AREA],
-) -> io::Result<()> {
-    let mut cells = [0u32; MANY];
-    lend_many(rt, bytes, question, number, &mut cells, area)
-}
-
-fn lend_many(
-    rt: &impl Print,
-    bytes: &[u8],
-    question: Question,
-    number: u64,
-    cells: &mut [u32; MANY],
-    area: &mut [u8; AREA],
-) -> io::Result<()> {
-    tell(rt, bytes, question, number, cells, area)
+    let mut cells = [0u32; CELLS];
+    tell(rt, bytes, question, number, &mut cells, area)
 }
 
 // The answer to a question that is asked with a number. A witness has at most a row for each tick.
@@ -92,8 +55,8 @@ fn tell(
     cells: &mut [u32],
     area: &mut [u8],
 ) -> io::Result<()>
-    requires has_room { HasRoom bytes.now question number (length cells.old) }
-    requires longest_time_in_bounds { longest_time ≤ length area.old }
+    requires room { HasRoom bytes.now question number (length cells.old) }
+    requires area_room { longest_time ≤ length area.old }
 {
     match question {
         Question::Fits => tell_why(rt, bytes, number, cells, area),

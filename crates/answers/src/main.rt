@@ -6,12 +6,12 @@ mod lending;
 ghost use Rattle.std.specs.Prelude.{◌≤◌, length};
 
 use fields::values::Sheet;
-use lending::{in_few, in_many, needs_many};
+use lending::{needs_many, tell_in};
 use printing::read_full;
 use std::env::FillError;
 use std::io;
 use std::rt::Env;
-use words::{Asked, DIGITS, LETTERS, Question, Word, number_of, question_of};
+use words::{DIGITS, LETTERS, Question, number_of, question_of};
 
 // The longest sheet that is read.
 const LONGEST: usize = 65536;
@@ -28,8 +28,8 @@ fn main(rt: HostRuntime) -> io::Result<()> {
     let mut word = [0u8; LETTERS];
     let size = word_at(&rt, 1, &mut word);
     match question_of(&word[..size]) {
-        Asked::Question(question) => ask(&rt, question),
-        Asked::NoQuestion => rt.println("usage: answers QUESTION [NUMBER]"),
+        Some(question) => ask(&rt, question),
+        None => rt.println("usage: answers QUESTION [NUMBER]"),
     }
 }
 
@@ -38,34 +38,27 @@ fn main(rt: HostRuntime) -> io::Result<()> {
 fn word_at(rt: &impl Env, place: usize, word: &mut [u8]) -> usize
     ensures { result ≤ length word.new }
 {
-    match rt.arg(place, word) {
-        Ok(size) => size,
-        Err(_) => 0,
-    }
+    rt.arg(place, word).unwrap_or(0)
 }
 
 fn has_word(rt: &impl Env, place: usize) -> bool {
-    match rt.arg(place, &mut []) {
-        Ok(_) => true,
-        Err(FillError::TooLong) => true,
-        Err(FillError::NotPresent) => false,
-    }
+    !matches!(rt.arg(place, &mut []), Err(FillError::NotPresent))
 }
 
 fn ask(rt: &(impl Env + Input + Print), question: Question) -> io::Result<()> {
     match number_asked(rt, question) {
-        Word::Number { value } => {
+        Some(number) => {
             let mut buffer = [0u8; LONGEST + 1];
-            lend_buffer(rt, question, value, &mut buffer)
+            read_sheet(rt, question, number, &mut buffer)
         }
-        Word::NoNumber => print_usage(rt, question),
+        None => print_usage(rt, question),
     }
 }
 
 // The number behind the question. Where there is none, a horizon is the longest; an interval or an amount has to be named.
-fn number_asked(rt: &impl Env, question: Question) -> Word {
+fn number_asked(rt: &impl Env, question: Question) -> Option<u64> {
     if has_word(rt, 3) {
-        return Word::NoNumber;
+        return None;
     }
     if !has_word(rt, 2) {
         return without_number(question);
@@ -75,16 +68,10 @@ fn number_asked(rt: &impl Env, question: Question) -> Word {
     number_of(&word[..size])
 }
 
-fn without_number(question: Question) -> Word {
-    let longest = Word::Number {
-        value: Sheet::TICKS.0 as u64,
-    };
+fn without_number(question: Question) -> Option<u64> {
     match question {
-        Question::Fits => longest,
-        Question::Curve => longest,
-        Question::Chart => longest,
-        Question::At => Word::NoNumber,
-        Question::Shortest => Word::NoNumber,
+        Question::Fits | Question::Curve | Question::Chart => Some(Sheet::TICKS.0 as u64),
+        Question::At | Question::Shortest => None,
     }
 }
 
@@ -96,15 +83,6 @@ fn print_usage(rt: &impl Print, question: Question) -> io::Result<()> {
         Question::At => rt.println("usage: at INTERVAL"),
         Question::Shortest => rt.println("usage: shortest AMOUNT"),
     }
-}
-
-fn lend_buffer(
-    rt: &(impl Input + Print),
-    question: Question,
-    number: u64,
-    buffer: &mut [u8; LONGEST + 1],
-) -> io::Result<()> {
-    read_sheet(rt, question, number, buffer)
 }
 
 fn read_sheet(
@@ -120,7 +98,7 @@ fn read_sheet(
     answer(rt, &buffer[..size], question, number, false)
 }
 
-// Answers in few cells, or in many where few are not enough. That it calls itself keeps the arrays of both in frames of their own: the
+// Answers in few cells, or in many where few are not enough. That it calls itself keeps the few and the many in frames of their own: the
 // compiler takes no large array into a function that does.
 fn answer(
     rt: &impl Print,
@@ -131,10 +109,10 @@ fn answer(
 ) -> io::Result<()> {
     let mut area = [0u8; AREA];
     if many {
-        return in_many(rt, bytes, question, number, &mut area);
+        return tell_in::<MANY>(rt, bytes, question, number, &mut area);
     }
     if needs_many(bytes, question, number) {
         return answer(rt, bytes, question, number, true);
     }
-    in_few(rt, bytes, question, number, &mut area)
+    tell_in::<FEW>(rt, bytes, question, number, &mut area)
 }

@@ -1,5 +1,5 @@
 -- What every call has in common: the graph, the tasks and the rows of its bytes, the cells that it uses, and how it begins.
-use Rattle.std.specs.Prelude.{ℕ, ◌+◌, ◌*◌, ◌≡◌, Bool, List, [], ◌∷◌, ltb, eqb}
+use Rattle.std.specs.Prelude.{ℕ, ◌+◌, ◌*◌, ◌≡◌, Bool, true, false, List, [], ◌∷◌, ltb, eqb, Option, Some, None, Result, IsOkAnd}
 use Rattle.meaning.specs.Graph.{Graph}
 use Rattle.meaning.specs.Demand.{longest_time}
 use Rattle.meaning.specs.Cells.{ByInterval, ByAmount, Filled}
@@ -7,10 +7,13 @@ use Rattle.meaning.specs.Fixed.{Task}
 use Rattle.fields.specs.Deciding.{Rule, ◌when◌, ◌or◌, judged_by}
 use Rattle.sheet.specs.Judging.{judged}
 use Rattle.sheet.specs.Meaning.{graph_of, tasks_of}
-use Rattle.sheet.specs.Outline.{Outlined}
-use Rattle.sheet.specs.declared.Answer.{Answer}
-use Rattle.sheet.specs.declared.Answer.TheVariants as sheet-case
-use Rattle.sheet.specs.declared.Outline.{Outline}
+use Rattle.sheet.specs.Answer.{Answer}
+use Rattle.sheet.specs.Answer as sheet-case
+use Rattle.beginning.specs.declared.accepted.AcceptedSheet.{AcceptedSheet}
+use Rattle.fields.specs.Refusals.{refused}
+use Rattle.fields.specs.declared.refusal.Reason.{Reason}
+use Rattle.fields.specs.declared.refusal.Reason.TheVariants.{OutOfRange, FewCells}
+use Rattle.fields.specs.declared.refusal.Refusal.{Refusal}
 
 -- the graph and the fixed tasks of a sheet's bytes, and how many rows it has
 abbrev pub graph : List ℕ → Graph
@@ -35,7 +38,12 @@ FilledByAmount bytes lines old new = Filled (rows bytes) (ByAmount (graph bytes)
 
 -- the rules of a call: rule 11 where the number asked for is out of range, rule 12 where the room, in cells, is too small for its lines
 abbrev pub call_rules : List ℕ → Bool → ℕ → ℕ → List Rule
-call_rules bytes out_of_range lines room = 11 when out_of_range ∷ 12 when ltb room (room_for bytes lines) ∷ []
+call_rules bytes out_of_range lines room = OutOfRange when out_of_range ∷ FewCells when ltb room (room_for bytes lines) ∷ []
+
+-- the same where the lines are counted already: none where the number is out of range
+abbrev pub counted_rules : List ℕ → Option ℕ → ℕ → List Rule
+counted_rules bytes (Some lines) = call_rules bytes false lines
+counted_rules bytes None = call_rules bytes true 0
 
 -- the rules of a call with an interval or a horizon, which is at most the longest time and takes a line for each interval from 0 on
 abbrev pub interval_rules : List ℕ → ℕ → ℕ → List Rule
@@ -50,13 +58,13 @@ abbrev pub amount_rules : List ℕ → ℕ → ℕ → List Rule
 amount_rules bytes b = call_rules bytes (bad_amount b) b
 
 -- how every call begins: the sheet's own refusal at its place, else the first broken rule of the call at place 0, else the answer
-abbrev pub Begins : Answer → List Rule → (ℕ → ℕ → Type 0) → Type 0 → Type 0
-Begins (sheet-case.Refused number place) rules Refuses Answers = Refuses number place
-Begins sheet-case.Accepted rules Refuses Answers = judged_by (λ number. Refuses number 0) rules Answers
+abbrev pub Begins : Answer → List Rule → (Reason → ℕ → Type 0) → Type 0 → Type 0
+Begins (sheet-case.Refused reason place) rules Refuses Answers = Refuses reason place
+Begins sheet-case.Accepted rules Refuses Answers = judged_by (λ reason. Refuses reason 0) rules Answers
 
--- what a call has in hand once it has begun: the judged sheet in outline where it may go on, else the refusal that stands first
-unfoldable pub Begun : List ℕ → List Rule → List ℕ → Outline → Type 0
-Begun bytes rules places begun =
+-- what a call has in hand once it has begun: the accepted sheet of its bytes where it may go on, else the refusal that stands first
+unfoldable pub Begun : List ℕ → List Rule → Result AcceptedSheet Refusal → Type 0
+Begun bytes rules begun =
     Begins (judged bytes).answer rules
-    (λ number place. begun.answer ≡ sheet-case.Refused number place)
-    (Outlined bytes places begun)
+    (λ reason place. begun ≡ refused reason place)
+    (IsOkAnd begun (λ sheet. sheet.bytes.now ≡ bytes))

@@ -1,4 +1,3 @@
 pub mod Lanes
-pub mod Passing
+pub mod Walking
 pub mod Raising
-pub mod Leaving

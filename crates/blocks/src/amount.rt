@@ -4,87 +4,61 @@ ghost use Rattle.meaning.specs.Cells.{amount_of};
 ghost use Rattle.meaning.specs.Computed.{cell_for, least_at, time_or_none};
 ghost use Rattle.meaning.specs.Demand.{longest_time};
 ghost use Rattle.sheet.specs.Meaning.{gap_of};
-ghost use Rattle.sheet.specs.Proper.{ProperRow};
 ghost use Rattle.tables.specs.Amounts.{soonest_via};
-ghost use Rattle.tables.specs.Followers.{Followed};
+ghost use Rattle.tables.specs.Seen.{row_in, work_in};
 ghost use Rattle.blocks.specs.Blocks.{block_size, EachLine};
 
 use crate::BLOCK;
 use fields::units::Ticks;
-use fields::values::{Row, Sheet};
-use tables::amount::{NO_TIME, least_cell, smaller, time_via};
-use tables::interval::gap_at;
+use tables::amount::{NO_TIME, least_cell, time_via};
+use tables::rows::Rows;
+use tables::walk::Followers;
 
-// The cells of a row with a job length in the block of lines from a line on, from the lines before the block. A job is no shorter than a block, so what it leaves of each line's amount has its cells before the block.
-pub fn block_times(
-    bytes: &[u8],
-    cells: &[u32],
-    row: Row,
-    work: u32,
-    n: usize,
-    line: usize,
-) -> [u32; BLOCK]
-    requires proper_row { ProperRow bytes.now n row }
-    requires block_size_le_work { block_size ≤ work }
-    requires block_size_in_bounds { n * (line + block_size) ≤ length cells.now }
-    requires block_size_bound { line + block_size ≤ longest_time + 1 }
-    ensures { EachLine (λ i. least_at n work row.deadline.0 (gap_of bytes.now row) (cell_for n cells.now) (amount_of (line + i))) result }
+// The cells of the row of a number in the block of lines from a line on, from the lines before the block. A job is no shorter than a block, so what it leaves of each line's amount has its cells before the block.
+pub fn block_times(rows: &Rows, cells: &[u32], number: usize, line: usize) -> [u32; BLOCK]
+    requires counted { number < rows.now.count }
+    requires long_enough { block_size ≤ work_in rows.now number }
+    requires room { rows.now.count * (line + block_size) ≤ length cells.now }
+    requires in_range { line + block_size ≤ longest_time + 1 }
+    ensures { EachLine (λ i. least_at rows.now.count (work_in rows.now number) (row_in rows.now number).deadline.0 (gap_of rows.now.bytes.now (row_in rows.now number)) (cell_for rows.now.count cells.now) (amount_of (line + i))) result }
 {
-    let back = work as usize;
-    if back <= line {
-        return soonest_in_block(bytes, cells, row.followers, row.gaps, n, line - back);
+    let back = rows.lengths[number] as usize;
+    if line < back {
+        return first_times(rows, cells, number, line);
     }
-    first_times(bytes, cells, row, work, n, line)
+    let row = rows.row(number);
+    let followers = Followers::new(rows.bytes, rows.count, row);
+    soonest_in_block(followers, cells, line - back)
 }
 
 // The same where one job may be enough for some of the lines.
-fn first_times(
-    bytes: &[u8],
-    cells: &[u32],
-    row: Row,
-    work: u32,
-    n: usize,
-    line: usize,
-) -> [u32; BLOCK]
-    requires proper_row { ProperRow bytes.now n row }
-    requires block_size_le_work { block_size ≤ work }
-    requires block_size_in_bounds { n * (line + block_size) ≤ length cells.now }
-    requires block_size_bound { line + block_size ≤ longest_time + 1 }
-    ensures { EachLine (λ i. least_at n work row.deadline.0 (gap_of bytes.now row) (cell_for n cells.now) (amount_of (line + i))) result }
+fn first_times(rows: &Rows, cells: &[u32], number: usize, line: usize) -> [u32; BLOCK]
+    requires counted { number < rows.now.count }
+    requires room { rows.now.count * (line + block_size) ≤ length cells.now }
+    requires in_range { line + block_size ≤ longest_time + 1 }
+    ensures { EachLine (λ i. least_at rows.now.count (work_in rows.now number) (row_in rows.now number).deadline.0 (gap_of rows.now.bytes.now (row_in rows.now number)) (cell_for rows.now.count cells.now) (amount_of (line + i))) result }
 {
     let mut column = [0u32; BLOCK];
-    let mut i: usize = 0;
-    while i < BLOCK {
-        column[i] = least_cell(bytes, cells, row, work, n, line + i);
-        i += 1;
+    // A loop, since `array::from_fn` asks its closure for facts that the check does not find here.
+    for i in 0..BLOCK {
+        column[i] = least_cell(rows, cells, number, line + i);
     }
     column
 }
 
-// The soonest end time by way of a follower in each line of a block. Each turn clears the lowest row of what is left of the set, and the gap of the next one stands two bytes on.
-fn soonest_in_block(
-    bytes: &[u8],
-    cells: &[u32],
-    followers: u64,
-    gaps: usize,
-    n: usize,
-    line: usize,
-) -> [u32; BLOCK]
-    requires followed { Followed bytes.now n followers gaps }
-    requires block_size_in_bounds { n * (line + block_size) ≤ length cells.now }
-    ensures { EachLine (λ i. soonest_via bytes.now cells.now followers gaps n (line + i)) result }
+// The soonest end time by way of a follower in each line of a block.
+fn soonest_in_block(followers: Followers, cells: &[u32], line: usize) -> [u32; BLOCK]
+    requires room { followers.count * (line + block_size) ≤ length cells.now }
+    ensures { EachLine (λ i. soonest_via followers.entry.bytes.now cells.now followers.entry.rest followers.entry.place followers.entry.count (line + i)) result }
 {
+    let n = followers.count;
     let base = line * n;
-    let mut rest = followers;
-    let mut place = gaps;
+    let mut left = followers;
     let mut soonest = [NO_TIME; BLOCK];
-    while rest != 0 {
-        let row = u64::trailing_zeros(rest) as usize;
-        let gap = gap_at(bytes, place);
+    while let Some((row, gap)) = left.next() {
+        // The result has a name of its own, since the checker lays no call's result in an array that lives on.
         let sooner = sooner_by(cells, n, base + row, gap, soonest);
         soonest = sooner;
-        rest = rest & (rest - 1);
-        place += Sheet::GAP;
     }
     soonest
 }
@@ -102,11 +76,9 @@ fn sooner_by(
 {
     let mut sooner = [0u32; BLOCK];
     let mut from = first;
-    let mut i: usize = 0;
-    while i < BLOCK {
-        sooner[i] = smaller(soonest[i], time_via(gap, cells[from]));
+    for i in 0..BLOCK {
+        sooner[i] = soonest[i].min(time_via(gap, cells[from]));
         from += n;
-        i += 1;
     }
     sooner
 }

@@ -1,65 +1,50 @@
 // Blocks of the table by interval. Its lines are the intervals from 0 on.
 ghost use Rattle.std.specs.Prelude.{◌≡◌, ℕ, ◌+◌, ◌*◌, ◌^◌, ◌≤◌, ◌<◌, max, length, get_or};
 ghost use Rattle.meaning.specs.Demand.{longest_time};
-ghost use Rattle.sheet.specs.Proper.{ProperRow};
 ghost use Rattle.tables.specs.Adding.{added_at, most_added, cell_of};
-ghost use Rattle.tables.specs.Followers.{Followed};
+ghost use Rattle.tables.specs.Seen.{row_in, work_in};
 ghost use Rattle.blocks.specs.Blocks.{block_size, EachLine, due_work};
 
 use crate::BLOCK;
 use fields::units::Ticks;
-use fields::values::{Row, Sheet};
-use tables::interval::{added, gap_at, larger};
+use std::array;
+use tables::interval::added;
+use tables::rows::Rows;
+use tables::walk::Followers;
 
-// The cells of a row with a job length in the block of lines from s on, from the lines before the block.
-pub fn block_cells(
-    bytes: &[u8],
-    cells: &[u32],
-    row: Row,
-    work: u32,
-    n: usize,
-    s: usize,
-) -> [u32; BLOCK]
-    requires proper_row { ProperRow bytes.now n row }
-    requires block_size_in_bounds { n * (s + block_size) ≤ length cells.now }
-    requires block_size_bound { s + block_size ≤ longest_time + 1 }
-    requires by_index { (i : ℕ) → i < block_size → cell_of bytes.now cells.now row work n (s + i) < 2 ^ 32 }
-    ensures { EachLine (λ i. cell_of bytes.now cells.now row work n (s + i)) result }
+// The cells of the row of a number in the block of lines from s on, from the lines before the block.
+pub fn block_cells(rows: &Rows, cells: &[u32], number: usize, s: usize) -> [u32; BLOCK]
+    requires counted { number < rows.now.count }
+    requires room { rows.now.count * (s + block_size) ≤ length cells.now }
+    requires in_range { s + block_size ≤ longest_time + 1 }
+    requires fits { (i : ℕ) → i < block_size → cell_of rows.now.bytes.now cells.now (row_in rows.now number) (work_in rows.now number) rows.now.count (s + i) < 2 ^ 32 }
+    ensures { EachLine (λ i. cell_of rows.now.bytes.now cells.now (row_in rows.now number) (work_in rows.now number) rows.now.count (s + i)) result }
 {
+    let row = rows.row(number);
+    let work = rows.lengths[number];
     let deadline = row.deadline.0 as usize;
-    let most = most_in_block(bytes, cells, row.followers, row.gaps, n, s);
+    let followers = Followers::new(rows.bytes, rows.count, row);
+    let most = most_in_block(followers, cells, s);
     let mut column = [0u32; BLOCK];
-    let mut i: usize = 0;
-    while i < BLOCK {
+    // A loop, since `array::from_fn` asks its closure for facts that the check does not find here.
+    for i in 0..BLOCK {
         column[i] = due_work(deadline, work, s + i, most[i]);
-        i += 1;
     }
     column
 }
 
-// The most that a follower adds in each line of a block. Each turn clears the lowest row of what is left of the set, and the gap of the next one stands two bytes on.
-fn most_in_block(
-    bytes: &[u8],
-    cells: &[u32],
-    followers: u64,
-    gaps: usize,
-    n: usize,
-    s: usize,
-) -> [u32; BLOCK]
-    requires followed { Followed bytes.now n followers gaps }
-    requires block_size_in_bounds { n * (s + block_size) ≤ length cells.now }
-    ensures { EachLine (λ i. most_added bytes.now cells.now followers gaps n (s + i)) result }
+// The most that a follower adds in each line of a block.
+fn most_in_block(followers: Followers, cells: &[u32], s: usize) -> [u32; BLOCK]
+    requires room { followers.count * (s + block_size) ≤ length cells.now }
+    ensures { EachLine (λ i. most_added followers.entry.bytes.now cells.now followers.entry.rest followers.entry.place followers.entry.count (s + i)) result }
 {
-    let mut rest = followers;
-    let mut place = gaps;
+    let n = followers.count;
+    let mut left = followers;
     let mut most = [0u32; BLOCK];
-    while rest != 0 {
-        let row = u64::trailing_zeros(rest) as usize;
-        let gap = gap_at(bytes, place);
+    while let Some((row, gap)) = left.next() {
+        // The result has a name of its own, since the checker lays no call's result in an array that lives on.
         let more = raised(cells, n, s, gap, row, most);
         most = more;
-        rest = rest & (rest - 1);
-        place += Sheet::GAP;
     }
     most
 }
@@ -74,7 +59,7 @@ fn raised(
     most: [u32; BLOCK],
 ) -> [u32; BLOCK]
     requires row_lt_n { row < n }
-    requires block_size_in_bounds { n * (s + block_size) ≤ length cells.now }
+    requires room { n * (s + block_size) ≤ length cells.now }
     ensures { EachLine (λ i. max (get_or most i 0) (added_at n cells.now (s + i) gap.0 row)) result }
 {
     let back = gap.0 as usize;
@@ -94,11 +79,9 @@ fn raised_by(cells: &[u32], n: usize, first: usize, most: [u32; BLOCK]) -> [u32;
 {
     let mut more = [0u32; BLOCK];
     let mut from = first;
-    let mut i: usize = 0;
-    while i < BLOCK {
-        more[i] = larger(most[i], cells[from]);
+    for i in 0..BLOCK {
+        more[i] = most[i].max(cells[from]);
         from += n;
-        i += 1;
     }
     more
 }
@@ -113,16 +96,10 @@ fn raised_late(
     most: [u32; BLOCK],
 ) -> [u32; BLOCK]
     requires row_lt_n { row < n }
-    requires block_size_in_bounds { n * (s + block_size) ≤ length cells.now }
+    requires room { n * (s + block_size) ≤ length cells.now }
     ensures { EachLine (λ i. max (get_or most i 0) (added_at n cells.now (s + i) gap.0 row)) result }
 {
-    let mut more = [0u32; BLOCK];
-    let mut i: usize = 0;
-    while i < BLOCK {
-        more[i] = larger(most[i], added(cells, n, s + i, gap, row));
-        i += 1;
-    }
-    more
+    array::from_fn(|i| most[i].max(added(cells, n, s + i, gap, row)))
 }
 
 // A job length and what is added to it, from the deadline on.

@@ -1,3 +1,2 @@
 pub mod Onward
-pub mod Told
 pub mod Stretches

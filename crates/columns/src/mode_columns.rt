@@ -2,60 +2,47 @@
 ghost use Rattle.std.specs.Prelude.{◌≡◌};
 ghost use Rattle.fields.specs.Deciding.{first_broken};
 ghost use Rattle.written.specs.Judging.{entry_rules};
-ghost use Rattle.written.specs.Values.{ModeEntry, mode_entries};
-ghost use Rattle.columns.specs.Counting.{Counts};
+ghost use Rattle.written.specs.Lent.{modes_lent};
+ghost use Rattle.written.specs.Values.{ModeEntry};
+ghost use Rattle.columns.specs.Counting.{counted};
 
-use crate::{Counted, cut, least, left_over};
+use crate::cut;
+use fields::refusal::Reason;
+use fields::table::Kind;
 use fields::units::{Rpm, Ticks};
 use fields::values::{Mode, Tally};
 use rules::counting::count_mode;
-use rules::{common_number, mode_number};
+use rules::{judge_field, judge_mode};
+use written::ModeColumns;
 
-// The first broken rule of the modes, or the tally behind them.
-pub(crate) fn modes_number(
-    boundaries: &[u16],
-    lengths: &[u16],
-    fallbacks: &[u16],
-    tally: Tally,
-) -> Counted
-    ensures { Counts tally (mode_entries boundaries.now lengths.now fallbacks.now) result }
+// The tally behind the modes, or the reason of the first rule that they break.
+pub(crate) fn judge_modes(modes: ModeColumns, tally: Tally) -> Result<Tally, Reason>
+    ensures { result ≡ counted tally (modes_lent modes.entry) }
 {
     let mut so_far = tally;
-    let mut at: usize = 0;
-    let whole = least(boundaries.len(), least(lengths.len(), fallbacks.len()));
-    while at < whole {
+    let count = modes.boundaries.len();
+    let whole = count.min(modes.lengths.len()).min(modes.fallbacks.len());
+    // One index reads all columns at once; a `zip` of them would be pairs of pairs.
+    for at in 0..whole {
         let mode = Mode {
-            boundary: Rpm(boundaries[at]),
-            length: Ticks(lengths[at]),
-            fallback: Rpm(fallbacks[at]),
+            boundary: Rpm(modes.boundaries[at]),
+            length: Ticks(modes.lengths[at]),
+            fallback: Rpm(modes.fallbacks[at]),
         };
-        let number = one_mode_number(so_far, mode);
-        if number != 0 {
-            return Counted {
-                number: number,
-                tally: so_far,
-            };
-        }
+        judge_one_mode(so_far, mode)?;
         so_far = count_mode(so_far, mode);
-        at += 1;
     }
-    if left_over(boundaries.len(), lengths.len(), fallbacks.len(), at) {
-        return cut(2, so_far);
+    if modes.lengths.len() != count || modes.fallbacks.len() != count {
+        return cut(Kind::ModeField, so_far);
     }
-    Counted {
-        number: 0,
-        tally: so_far,
-    }
+    Ok(so_far)
 }
 
 // The rules of one mode, whose field takes the shorter form.
-fn one_mode_number(tally: Tally, mode: Mode) -> u8
+fn judge_one_mode(tally: Tally, mode: Mode) -> Result<(), Reason>
     ensures { result ≡ first_broken (entry_rules tally (ModeEntry mode)) }
 {
     let size = mode.short_size();
-    let number = common_number(2, tally.last, size, false, tally.modes);
-    if number != 0 {
-        return number;
-    }
-    mode_number(tally, mode, size)
+    judge_field(Kind::ModeField, tally.last, size, false, tally.modes)?;
+    judge_mode(tally, mode, size)
 }

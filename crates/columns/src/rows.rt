@@ -3,120 +3,81 @@ ghost use Rattle.std.specs.Prelude.{◌≡◌, ◌≤◌, length, get_or};
 ghost use Rattle.sets.specs.Sets.{width};
 ghost use Rattle.fields.specs.Deciding.{first_broken};
 ghost use Rattle.written.specs.Judging.{one_shorter, entry_rules, unknown_among};
-ghost use Rattle.written.specs.Values.{RowEntry, row_entries};
-ghost use Rattle.columns.specs.Counting.{Counts};
+ghost use Rattle.written.specs.Lent.{rows_lent};
+ghost use Rattle.written.specs.Values.{RowEntry};
+ghost use Rattle.columns.specs.Counting.{counted};
 
-use crate::{Counted, cut, least, left_over};
+use crate::cut;
+use fields::refusal::Reason;
+use fields::table::Kind;
 use fields::units::{Rpm, Ticks};
 use fields::values::{Row, Sheet, Tally};
 use rules::counting::count_row;
-use rules::{common_number, row_number, unknown_in, unlike_set};
+use rules::{judge_field, judge_row, unknown_in, unlike_set};
+use written::RowColumns;
 
-// What is seen of a row's gaps: whether one is 0, and whether one is below the deadline.
-#[derive(Clone, Copy)]
-struct Look {
-    zero: bool,
-    short: bool,
-}
-
-// The first broken rule of the rows, or the tally behind them. A row takes as many gaps as its set has rows; none may be left over.
-pub(crate) fn rows_number(
-    speeds: &[u16],
-    deadlines: &[u16],
-    sets: &[u64],
-    gaps: &[u16],
-    tally: Tally,
-) -> Counted
-    ensures { Counts tally (row_entries speeds.now deadlines.now sets.now gaps.now) result }
+// The tally behind the rows, or the reason of the first rule that they break. A row takes as many gaps as its set has rows, and none may be
+// left over.
+pub(crate) fn judge_rows(rows: RowColumns, tally: Tally) -> Result<Tally, Reason>
+    ensures { result ≡ counted tally (rows_lent rows.entry) }
 {
     let mut so_far = tally;
-    let mut at: usize = 0;
-    let mut from: usize = 0;
-    let whole = least(speeds.len(), least(deadlines.len(), sets.len()));
-    while at < whole {
-        let speed = Rpm(speeds[at]);
-        let deadline = Ticks(deadlines[at]);
-        let followers = sets[at];
-        let to = from + least(sets::size(followers), gaps.len() - from);
-        let number = one_row_number(so_far, speed, deadline, followers, &gaps[from..to]);
-        if number != 0 {
-            return Counted {
-                number: number,
-                tally: so_far,
-            };
-        }
-        so_far = count_row(so_far, speed);
-        from = to;
-        at += 1;
+    let mut left = rows.gaps;
+    let count = rows.speeds.len();
+    let whole = count.min(rows.deadlines.len()).min(rows.sets.len());
+    // One index reads all columns at once; a `zip` of them would be pairs of pairs.
+    for at in 0..whole {
+        let row = Row {
+            speed: Rpm(rows.speeds[at]),
+            deadline: Ticks(rows.deadlines[at]),
+            followers: rows.sets[at],
+            gaps: 0,
+        };
+        let (gaps, others) = left.split_at(sets::size(row.followers).min(left.len()));
+        judge_one_row(so_far, row, gaps)?;
+        so_far = count_row(so_far, row.speed);
+        left = others;
     }
-    let unlike = left_over(speeds.len(), deadlines.len(), sets.len(), at);
-    if unlike || from < gaps.len() {
-        return cut(3, so_far);
+    if rows.deadlines.len() != count || rows.sets.len() != count || !left.is_empty() {
+        return cut(Kind::RowField, so_far);
     }
-    Counted {
-        number: 0,
-        tally: so_far,
-    }
+    Ok(so_far)
 }
 
 // The rules of one row with its gaps.
-fn one_row_number(tally: Tally, speed: Rpm, deadline: Ticks, followers: u64, gaps: &[u16]) -> u8
+fn judge_one_row(tally: Tally, row: Row, gaps: &[u16]) -> Result<(), Reason>
     requires { length gaps.now ≤ width }
-    ensures { result ≡ first_broken (entry_rules tally (RowEntry speed deadline followers gaps.now)) }
+    ensures { result ≡ first_broken (entry_rules tally (RowEntry row.speed row.deadline row.followers gaps.now)) }
 {
     let size = Sheet::HEAD + Sheet::GAP * gaps.len();
-    let unlike = unlike_set(size, followers);
-    let number = common_number(3, tally.last, size, unlike, tally.rows);
-    if number != 0 {
-        return number;
-    }
-    let row = Row {
-        speed: speed,
-        deadline: deadline,
-        followers: followers,
-        gaps: 0,
-    };
-    let look = look_at(gaps, deadline);
-    row_number(tally, row, look.zero, look.short)
+    let unlike = unlike_set(size, row.followers);
+    judge_field(Kind::RowField, tally.last, size, unlike, tally.rows)?;
+    let zero_gap = one_shorter(gaps, Ticks(1));
+    let short_gap = one_shorter(gaps, row.deadline);
+    judge_row(tally, row, zero_gap, short_gap)
 }
 
-// Rule 7 and rule 10 of gaps. It does not stop at the first that breaks one, so that the compiler can look at several at once.
-fn look_at(gaps: &[u16], deadline: Ticks) -> Look
-    ensures zero_value { result.zero ≡ one_shorter gaps.now (record { 0 = 1 }) }
-    ensures short_value { result.short ≡ one_shorter gaps.now deadline }
+// Rule 7 and rule 10 of gaps. It does not stop at the first that is shorter, so that the compiler can look at several at once.
+fn one_shorter(gaps: &[u16], bound: Ticks) -> bool
+    ensures { result ≡ one_shorter gaps.now bound }
 {
-    let mut zero = false;
-    let mut short = false;
-    let mut passed: usize = 0;
-    while passed < gaps.len() {
-        let gap = Ticks(gaps[passed]);
-        zero = zero | gap.shorter(Ticks(1));
-        short = short | gap.shorter(deadline);
-        passed += 1;
+    let mut shorter = false;
+    for gap in gaps {
+        shorter |= Ticks(*gap) < bound;
     }
-    Look {
-        zero: zero,
-        short: short,
-    }
+    shorter
 }
 
 // Rule 9: whether the set of one of `count` rows names a row that does not exist.
 pub(crate) fn unknown_among(sets: &[u64], count: usize) -> bool
     ensures { result ≡ unknown_among sets.now count }
 {
-    let mut number: usize = 0;
-    while number < count {
-        if unknown_in(set_of(sets, number), count) {
-            return true;
-        }
-        number += 1;
-    }
-    false
+    (0..count).any(|number| unknown_in(set_of(sets, number), count))
 }
 
 // The follower set of a number, an empty one past the end.
 fn set_of(sets: &[u64], number: usize) -> u64
     ensures { result ≡ get_or sets.now number 0 }
 {
-    if number < sets.len() { sets[number] } else { 0 }
+    sets.get(number).copied().unwrap_or(0)
 }

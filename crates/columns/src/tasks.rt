@@ -2,63 +2,54 @@
 ghost use Rattle.std.specs.Prelude.{◌≡◌};
 ghost use Rattle.fields.specs.Deciding.{first_broken};
 ghost use Rattle.written.specs.Judging.{entry_rules};
-ghost use Rattle.written.specs.Values.{TaskEntry, task_entries};
-ghost use Rattle.columns.specs.Counting.{Counts};
+ghost use Rattle.written.specs.Lent.{tasks_lent};
+ghost use Rattle.written.specs.Values.{TaskEntry};
+ghost use Rattle.columns.specs.Counting.{counted};
 
-use crate::{Counted, cut, least, left_over};
+use crate::cut;
+use fields::refusal::Reason;
+use fields::table::Kind;
 use fields::units::Ticks;
 use fields::values::{Tally, Task};
 use rules::counting::count_task;
-use rules::{common_number, task_number};
+use rules::{judge_field, judge_task};
+use written::TaskColumns;
 
-// The first broken rule of the fixed tasks, or the tally behind them.
-pub(crate) fn tasks_number(
-    lengths: &[u16],
-    periods: &[u16],
-    deadlines: &[u16],
-    jitters: &[u16],
-    tally: Tally,
-) -> Counted
-    ensures { Counts tally (task_entries lengths.now periods.now deadlines.now jitters.now) result }
+// The tally behind the fixed tasks, or the reason of the first rule that they break.
+pub(crate) fn judge_tasks(tasks: TaskColumns, tally: Tally) -> Result<Tally, Reason>
+    ensures { result ≡ counted tally (tasks_lent tasks.entry) }
 {
     let mut so_far = tally;
-    let mut at: usize = 0;
-    let shorter = least(deadlines.len(), jitters.len());
-    let whole = least(lengths.len(), least(periods.len(), shorter));
-    while at < whole {
+    let count = tasks.lengths.len();
+    let whole = count
+        .min(tasks.periods.len())
+        .min(tasks.deadlines.len())
+        .min(tasks.jitters.len());
+    // One index reads all columns at once; a `zip` of them would be pairs of pairs.
+    for at in 0..whole {
         let task = Task {
-            length: Ticks(lengths[at]),
-            period: Ticks(periods[at]),
-            deadline: Ticks(deadlines[at]),
-            jitter: Ticks(jitters[at]),
+            length: Ticks(tasks.lengths[at]),
+            period: Ticks(tasks.periods[at]),
+            deadline: Ticks(tasks.deadlines[at]),
+            jitter: Ticks(tasks.jitters[at]),
         };
-        let number = one_task_number(so_far, task);
-        if number != 0 {
-            return Counted {
-                number: number,
-                tally: so_far,
-            };
-        }
+        judge_one_task(so_far, task)?;
         so_far = count_task(so_far);
-        at += 1;
     }
-    let unlike = left_over(lengths.len(), periods.len(), deadlines.len(), at);
-    if unlike || at < jitters.len() {
-        return cut(4, so_far);
+    if tasks.periods.len() != count
+        || tasks.deadlines.len() != count
+        || tasks.jitters.len() != count
+    {
+        return cut(Kind::TaskField, so_far);
     }
-    Counted {
-        number: 0,
-        tally: so_far,
-    }
+    Ok(so_far)
 }
 
 // The rules of one fixed task, whose field takes the shorter form.
-fn one_task_number(tally: Tally, task: Task) -> u8
+fn judge_one_task(tally: Tally, task: Task) -> Result<(), Reason>
     ensures { result ≡ first_broken (entry_rules tally (TaskEntry task)) }
 {
-    let number = common_number(4, tally.last, task.short_size(), false, tally.tasks);
-    if number != 0 {
-        return number;
-    }
-    task_number(task)
+    let size = task.short_size();
+    judge_field(Kind::TaskField, tally.last, size, false, tally.tasks)?;
+    judge_task(task)
 }

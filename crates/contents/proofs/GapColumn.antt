@@ -19,7 +19,7 @@ use Rattle.sheet.specs.Judging.{judged}
 use Rattle.sheet.specs.Meaning.{rows_in, row_of, gap_of, graph_of}
 use Rattle.sheet.specs.Outline.{head_of}
 use Rattle.written.specs.Reading.{words_at, gaps_of, all_gaps, values_in, values_of}
-use Rattle.written.proofs.Columns.{words_count}
+use Rattle.written.proofs.InColumns.{words_count}
 use Rattle.fields.specs.declared.values.Row.{Row}
 use Rattle.contents.specs.Contents.{row_numbered, gap_numbered}
 use Rattle.contents.specs.declared.RowValues.{RowValues}

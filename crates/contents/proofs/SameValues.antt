@@ -18,12 +18,12 @@ use Rattle.sheet.proofs.Accepted.{accepted_proper}
 use Rattle.sheet.proofs.Growing.{all_there}
 use Rattle.fields.specs.declared.values.Mode.{Mode}
 use Rattle.fields.specs.declared.values.Task.{Task}
-use Rattle.sheet.specs.declared.Answer.TheVariants.{Accepted}
+use Rattle.sheet.specs.Answer.{Accepted}
 use Rattle.written.specs.Reading.{values_in, values_of}
 use Rattle.written.specs.ShortForm.{short_form}
 use Rattle.written.specs.Values.{Values, ModeEntry, TaskEntry, mode_entries, task_entries}
 use Rattle.written.proofs.AcceptedAgain.{accepted_again}
-use Rattle.written.proofs.Columns.{modes_entries, tasks_entries}
+use Rattle.written.proofs.InColumns.{modes_entries, tasks_entries}
 use Rattle.written.proofs.JudgedWritten.{written_read}
 use Rattle.written.proofs.WrittenBack.{written_short}
 use Rattle.contents.specs.Contents.{row_numbered, gap_numbered}

@@ -9,8 +9,9 @@ use Rattle.fields.specs.Deciding.{pick}
 use Rattle.fields.specs.Fields.{is_end}
 use Rattle.fields.specs.Limits.{mode_size, task_size}
 use Rattle.fields.specs.Reading.{field_at}
-use Rattle.fields.specs.declared.reader.Step.{Step}
-use Rattle.fields.specs.declared.reader.Step.TheVariants.{Field, Refusal}
+use Rattle.std.specs.Prelude.{Result, Ok, Err}
+use Rattle.fields.specs.declared.reader.Field.{Field}
+use Rattle.fields.specs.declared.refusal.Refusal.{Refusal}
 use Rattle.fields.specs.declared.table.Kind.{Kind}
 use Rattle.fields.specs.declared.table.Kind.TheVariants.{RefusedTag, LabelField, ModeField, RowField, TaskField, EndField, SkippedField}
 use Rattle.sheet.specs.Proper.{Bytes}
@@ -60,12 +61,15 @@ module _ (bytes : List ℕ) (are : Bytes bytes) where
   shorter_bytes EndField start = no_bytes
   shorter_bytes SkippedField start = no_bytes
 
-  step_bytes : (at : ℕ) (go : ℕ → List ℕ) → ((next : ℕ) → Bytes (go next)) → (step : Step) → Bytes (short_step bytes at go step)
+  step_bytes : (at : ℕ) (go : ℕ → List ℕ) → ((next : ℕ) → Bytes (go next)) → (here : Result Field Refusal) → Bytes (short_step bytes at go here)
   unfolding short_step
-  step_bytes at go goes (Refusal number place) = no_bytes
-  step_bytes at go goes (Field kind start size next) =
-      both_bytes (short_field bytes at kind start size next) _
-      (chosen_bytes (is_skipped kind) [] _ no_bytes (chosen_bytes (has_shorter bytes kind start size) (shorter_field bytes kind start) _ (shorter_bytes kind start) (front_bytes (next - at) (drop at bytes) (behind_bytes at bytes are))))
+  step_bytes at go goes (Err refusal) = no_bytes
+  step_bytes at go goes (Ok field) =
+      let kind = field.kind in
+      let start = field.start in
+      let next = field.next in
+      both_bytes (short_field bytes at kind start field.size next) _
+      (chosen_bytes (is_skipped kind) [] _ no_bytes (chosen_bytes (has_shorter bytes kind start field.size) (shorter_field bytes kind start) _ (shorter_bytes kind start) (front_bytes (next - at) (drop at bytes) (behind_bytes at bytes are))))
       (chosen_bytes (is_end kind) [] (go next) no_bytes (goes next))
 
   from_bytes : (n at : ℕ) → Bytes (short_from bytes n at)

@@ -8,13 +8,17 @@ use lib.Seq.{get_or-take}
 use borrow.Author.Tests.{lt-ltb, le-ltb}
 use Rattle.fields.specs.Deciding.{pick}
 use Rattle.fields.specs.Limits.{mode_limit, task_limit}
-use Rattle.fields.specs.Values.{no_mode, no_task}
+use Rattle.std.specs.Prelude.{Err}
+use Rattle.fields.specs.Values.{empty_sheet, no_mode, no_task}
+use Rattle.fields.specs.declared.refusal.Refusal.{Refusal}
 use Rattle.sheet.specs.Judging.{judged}
 use Rattle.sheet.specs.Meaning.{row_of, gap_of}
-use Rattle.sheet.specs.Outline.{head_of}
+use Rattle.sheet.specs.Outline.{head_of, Outlined}
 use Rattle.sheet.specs.Proper.{Bytes}
 use Rattle.modes.specs.Modes.{job_length}
+use Rattle.sheet.proofs.Answering.{outlined_refusal}
 use Rattle.sheet.proofs.Counts.{modes_within, tasks_within}
+use Rattle.sheet.proofs.Refusals.{refused_empty}
 use Rattle.fields.specs.declared.units.Ticks.{Ticks}
 use Rattle.fields.specs.declared.values.Row.{Row}
 use Rattle.sheet.specs.declared.Head.{Head}
@@ -77,3 +81,22 @@ module _ (bytes : List ℕ) (head : Head) (is : head ≡ head_of (judged bytes).
   pub gap_past : (to : ℕ) → head.tally.rows ≤ number → record { 0 = 0 } ≡ gap_numbered bytes number to
   unfolding gap_numbered pick
   gap_past to h = rw (le-ltb number (judged bytes).sheet.tally.rows (rw is at h)) refl
+
+-- a refused sheet counts nothing
+module _ (bytes places : List ℕ) (refusal : Refusal) (refused : Outlined bytes places (Err refusal)) where
+  counts_none : ((judged bytes).sheet.tally.modes ≡ 0) × ((judged bytes).sheet.tally.rows ≡ 0) × ((judged bytes).sheet.tally.tasks ≡ 0)
+  unfolding empty_sheet
+  counts_none = rw (refused_empty bytes refusal.reason refusal.place (outlined_refusal bytes places refusal refused)) (refl, refl, refl)
+
+  module _ (number : ℕ) where
+    pub mode_none : no_mode ≡ mode_numbered bytes number
+    mode_none = mode_past bytes (head_of (judged bytes).sheet) refl number (omega (arith, counts_none))
+
+    pub row_none : no_row_values ≡ row_numbered bytes number
+    row_none = row_past bytes (head_of (judged bytes).sheet) refl number (omega (arith, counts_none))
+
+    pub gap_none : (to : ℕ) → record { 0 = 0 } ≡ gap_numbered bytes number to
+    gap_none to = gap_past bytes (head_of (judged bytes).sheet) refl number to (omega (arith, counts_none))
+
+    pub task_none : no_task ≡ task_numbered bytes number
+    task_none = task_past bytes (head_of (judged bytes).sheet) refl number (omega (arith, counts_none))

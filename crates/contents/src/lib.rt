@@ -23,19 +23,28 @@ pub struct RowValues {
     pub length: Ticks,
 }
 
+impl RowValues {
+    // What is told of a row that there is not.
+    pub const NONE: RowValues = RowValues {
+        speed: Rpm(0),
+        deadline: Ticks(0),
+        followers: 0,
+        length: Ticks(0),
+    };
+}
+
 // The mode of a number.
 pub fn mode_numbered(bytes: &[u8], number: usize) -> Mode
     ensures { result ≡ mode_numbered bytes.now number }
 {
     let mut places = [0usize; Sheet::ROWS];
-    let outline = outline_of(bytes, &mut places);
-    let head = outline.head;
-    let tally = head.tally;
-    let modes = head.modes;
-    if number < tally.modes {
-        return modes[number];
+    let Ok(head) = outline_of(bytes, &mut places) else {
+        return Mode::NONE;
+    };
+    if head.tally.modes <= number {
+        return Mode::NONE;
     }
-    Mode::NONE
+    head.modes[number]
 }
 
 // The row of a number, with its job length.
@@ -43,27 +52,18 @@ pub fn row_numbered(bytes: &[u8], number: usize) -> RowValues
     ensures { result ≡ row_numbered bytes.now number }
 {
     let mut places = [0usize; Sheet::ROWS];
-    let outline = outline_of(bytes, &mut places);
-    let head = outline.head;
-    let tally = head.tally;
-    if tally.rows <= number {
-        return RowValues {
-            speed: Rpm(0),
-            deadline: Ticks(0),
-            followers: 0,
-            length: Ticks(0),
-        };
+    let Ok(head) = outline_of(bytes, &mut places) else {
+        return RowValues::NONE;
+    };
+    if head.tally.rows <= number {
+        return RowValues::NONE;
     }
-    let modes = head.modes;
     let row = row_at(bytes, places[number]);
-    let speed = row.speed;
-    let deadline = row.deadline;
-    let length = job_length(modes, tally.modes, speed);
     RowValues {
-        speed: speed,
-        deadline: deadline,
+        speed: row.speed,
+        deadline: row.deadline,
         followers: row.followers,
-        length: length,
+        length: job_length(head.modes, head.tally.modes, row.speed),
     }
 }
 
@@ -72,10 +72,10 @@ pub fn gap_numbered(bytes: &[u8], from: usize, to: usize) -> Ticks
     ensures { result ≡ gap_numbered bytes.now from to }
 {
     let mut places = [0usize; Sheet::ROWS];
-    let outline = outline_of(bytes, &mut places);
-    let head = outline.head;
-    let tally = head.tally;
-    if tally.rows <= from {
+    let Ok(head) = outline_of(bytes, &mut places) else {
+        return Ticks(0);
+    };
+    if head.tally.rows <= from {
         return Ticks(0);
     }
     gap_in(bytes, row_at(bytes, places[from]), to)
@@ -107,12 +107,11 @@ pub fn task_numbered(bytes: &[u8], number: usize) -> Task
     ensures { result ≡ task_numbered bytes.now number }
 {
     let mut places = [0usize; Sheet::ROWS];
-    let outline = outline_of(bytes, &mut places);
-    let head = outline.head;
-    let tally = head.tally;
-    let tasks = head.tasks;
-    if number < tally.tasks {
-        return tasks[number];
+    let Ok(head) = outline_of(bytes, &mut places) else {
+        return Task::NONE;
+    };
+    if head.tally.tasks <= number {
+        return Task::NONE;
     }
-    Task::NONE
+    head.tasks[number]
 }

@@ -4,11 +4,10 @@
 ghost use Rattle.std.specs.Prelude.{◌≤◌, ◌≡◌};
 ghost use Rattle.fields.specs.Limits.{row_limit};
 ghost use Rattle.sheet.specs.Judging.{judged};
-ghost use Rattle.sheet.specs.declared.Answer.TheVariants.{Accepted};
+ghost use Rattle.sheet.specs.Answer.{Accepted};
 ghost use Rattle.beginning.specs.Beginning.{rows as rows_of};
 
-use printing::{print_curve, print_refusal, print_verdict, read_full};
-use sheet::Answer;
+use printing::{print_curve, print_verdict, read_full};
 use std::io;
 use steps::horizon_of;
 
@@ -27,22 +26,17 @@ fn main(rt: HostRuntime) -> io::Result<()> {
 }
 
 fn print_sheet(rt: &impl Print, bytes: &[u8]) -> io::Result<()> {
-    let judged = sheet::judge(bytes);
-    let answer = judged.answer;
-    match answer {
-        Answer::Accepted => {
-            let tally = judged.sheet.tally;
-            print_accepted(rt, bytes, tally.rows)
-        }
-        Answer::Refused { number, place } => print_refusal(rt, number, place),
+    match sheet::judge(bytes) {
+        Ok(sheet) => print_accepted(rt, bytes, sheet.tally.rows),
+        Err(refusal) => rt.println(refusal),
     }
 }
 
 // One table of cells serves the verdict and the steps.
 fn print_accepted(rt: &impl Print, bytes: &[u8], rows: usize) -> io::Result<()>
-    requires bytes_value { (judged bytes.now).answer ≡ Accepted }
-    requires rows_value { rows ≡ rows_of bytes.now }
-    requires le_rows { (1 ≤ rows) × (rows ≤ row_limit) }
+    requires accepted { (judged bytes.now).answer ≡ Accepted }
+    requires rows { rows ≡ rows_of bytes.now }
+    requires some_rows { (1 ≤ rows) × (rows ≤ row_limit) }
 {
     let mut cells = [0u32; CELLS];
     let horizon = horizon_of(CELLS, rows);

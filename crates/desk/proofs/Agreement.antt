@@ -14,64 +14,64 @@ use Rattle.meaning.proofs.Agreement.{agree, none_enough}
 use Rattle.meaning.proofs.Verdicts.{verdict_unique}
 use Rattle.fields.specs.Deciding.{Rule, pick}
 use Rattle.sheet.specs.Judging.{judged}
-use Rattle.sheet.specs.declared.Answer.TheVariants.{Accepted}
+use Rattle.sheet.specs.Answer.{Accepted}
 use Rattle.beginning.specs.Beginning.{graph, tasks, room_for, FilledByInterval, FilledByAmount, interval_rules, amount_rules, Begins}
-use Rattle.desk.specs.Calls.{DemandRefuses, DemandGives, DemandAnswers, DemandCall, ShortestGives, ShortestAnswers, ShortestCall, VerdictRefuses, VerdictAnswers, VerdictCall, VerdictByIntervalCall, VerdictByAmountCall, verdict_answer}
+use Rattle.desk.specs.Calls.{DemandRefuses, DemandGives, DemandAnswers, DemandCall, ShortestGives, ShortestAnswers, ShortestCall, VerdictRefuses, VerdictAnswers, VerdictCall, VerdictByIntervalCall, VerdictByAmountCall, first_overrun}
 use Rattle.desk.specs.Agreement.{WithRoom, DemandEitherWay, TellsBy, CallsAgree}
-use Rattle.desk.specs.declared.DemandAnswer.TheVariants as demand-case
-use Rattle.desk.specs.declared.ShortestAnswer.{ShortestAnswer}
-use Rattle.desk.specs.declared.ShortestAnswer.TheVariants.{Found, Refused}
-use Rattle.desk.specs.declared.VerdictAnswer.{VerdictAnswer}
-use Rattle.beginning.proofs.Beginnings.{begins_alike, came_to_answer, comes_to_answer, enough_alike, amount_in_range}
+use Rattle.std.specs.Prelude.{Result, Ok, Option}
+use Rattle.meaning.specs.Verdict.{Verdict}
+use Rattle.fields.specs.Refusals.{refused}
+use Rattle.fields.specs.declared.refusal.Reason.TheVariants.{NeverReached}
+use Rattle.fields.specs.declared.refusal.Refusal.{Refusal}
+use Rattle.desk.specs.declared.Attained.{Attained}
+use Rattle.beginning.proofs.Beginnings.{ok_not_refused, begins_alike, came_to_answer, comes_to_answer, enough_alike, amount_in_range}
 use Rattle.beginning.proofs.Showing.{shown_case}
 
-pub found_not_refused : (amount count number place : ℕ) → demand-case.Found amount count ≡ demand-case.Refused number place → ⊥
-found_not_refused amount count number place e = let z : ◌≡◌ {A = ℕ} 0 1 = cc in omega arith
-
-time_not_refused : (time number place : ℕ) → Found time ≡ Refused number place → ⊥
-time_not_refused time number place e = let z : ◌≡◌ {A = ℕ} 0 1 = cc in omega arith
+-- an amount, and how many rows attain it
+abbrev attained : ℕ → ℕ → Attained
+attained amount count = record { amount = amount; count = count }
 
 -- an amount that `demand` found is the demand
 module _ (bytes : List ℕ) (t : ℕ) (cells area : List ℕ) (amount count : ℕ) (cells' area' : List ℕ) where
-  given_demand : (most : ℕ) (witness : List ℕ) → IsDemand (graph bytes) t most → DemandGives area (demand-case.Found amount count) area' most witness
+  given_demand : (most : ℕ) (witness : List ℕ) → IsDemand (graph bytes) t most → DemandGives area (Ok (attained amount count)) area' most witness
       → IsDemand (graph bytes) t amount
   given_demand most witness is =
-      shown_case witness area _ _ (IsDemand (graph bytes) t amount) (demand-case.Found amount count) area'
-      (λ long told same. absurd (found_not_refused amount count 13 0 told))
-      (λ enough (told : demand-case.Found amount count ≡ demand-case.Found most (length witness)) written.
-      let same : most ≡ amount = cc in
-      subst (IsDemand (graph bytes) t) same is)
+      shown_case witness area _ _ (IsDemand (graph bytes) t amount) (Ok (attained amount count)) area'
+      (λ long told same. ok_not_refused _ _ told)
+      (λ enough (told : ◌≡◌ {A = Result Attained Refusal} (Ok (attained amount count)) (Ok (attained most (length witness)))) written.
+      let same : attained amount count ≡ attained most (length witness) = cc in
+      subst (IsDemand (graph bytes) t) (sym (ap (λ (one : Attained). one.amount) same)) is)
 
-  found_demand : DemandCall bytes t cells area (demand-case.Found amount count) cells' area' → IsDemand (graph bytes) t amount
+  found_demand : DemandCall bytes t cells area (Ok (attained amount count)) cells' area' → IsDemand (graph bytes) t amount
   unfolding DemandCall
   found_demand call =
-      given (came_to_answer (judged bytes).answer (interval_rules bytes t (length cells)) _ (DemandAnswers bytes t cells area (demand-case.Found amount count) cells' area')
-      (λ number place (p : DemandRefuses cells area (demand-case.Found amount count) cells' area' number place). found_not_refused amount count number place p.0)
+      given (came_to_answer (judged bytes).answer (interval_rules bytes t (length cells)) _ (DemandAnswers bytes t cells area (Ok (attained amount count)) cells' area')
+      (λ reason place (p : DemandRefuses cells area (Ok (attained amount count)) cells' area' reason place). ok_not_refused _ _ p.0)
       call).0
     where
-      given : DemandAnswers bytes t cells area (demand-case.Found amount count) cells' area' → IsDemand (graph bytes) t amount
+      given : DemandAnswers bytes t cells area (Ok (attained amount count)) cells' area' → IsDemand (graph bytes) t amount
       given (filled, (most, witness, is, first, gives)) = given_demand most witness is gives
 
--- what `shortest` gives for a time: 14 exactly for `no_time`, and else the time, so that it tells the same as the time itself up to the longest time
-module _ (answer : ShortestAnswer) (time : ℕ) where
-  gives_case : (test : Bool) → eqb time no_time ≡ test → pick test (answer ≡ Refused 14 0) (answer ≡ Found time)
-      → ((answer ≡ Refused 14 0) ↔ (time ≡ no_time)) × ((t : ℕ) → t ≤ longest_time → TellsBy t answer ↔ (time ≤ t))
+-- what `shortest` gives for a time: the refusal exactly for `no_time`, and else the time, so that it tells the same as the time itself up to the longest time
+module _ (answer : Result ℕ Refusal) (time : ℕ) where
+  gives_case : (test : Bool) → eqb time no_time ≡ test → pick test (answer ≡ refused NeverReached 0) (answer ≡ Ok time)
+      → ((answer ≡ refused NeverReached 0) ↔ (time ≡ no_time)) × ((t : ℕ) → t ≤ longest_time → TellsBy t answer ↔ (time ≤ t))
   unfolding pick
   gives_case true e gives =
       let none : time ≡ no_time = eqb-true time no_time e in
       ((λ r. none, λ n. gives), λ t h. (λ l. absurd (rw gives at l), λ l. absurd (omega arith)))
   gives_case false e gives =
       let some : time ≡ no_time → ⊥ = eqb-false time no_time e in
-      ((λ r. absurd (time_not_refused time 14 0 (sym gives ∙ r)), λ n. absurd (some n)), λ t h. (λ l. rw gives at l, λ l. rw gives l))
+      ((λ r. ok_not_refused time _ (sym gives ∙ r), λ n. absurd (some n)), λ t h. (λ l. rw gives at l, λ l. rw gives l))
 
-  told : ShortestGives answer time → ((answer ≡ Refused 14 0) ↔ (time ≡ no_time)) × ((t : ℕ) → t ≤ longest_time → TellsBy t answer ↔ (time ≤ t))
+  told : ShortestGives answer time → ((answer ≡ refused NeverReached 0) ↔ (time ≡ no_time)) × ((t : ℕ) → t ≤ longest_time → TellsBy t answer ↔ (time ≤ t))
   told = gives_case (eqb time no_time) refl
 
 -- both verdicts are the same for any bytes and any horizon, refusals too, where each is lent cells enough
-module _ (bytes : List ℕ) (horizon : ℕ) (cells cells' room room' : List ℕ) (x y : VerdictAnswer) where
+module _ (bytes : List ℕ) (horizon : ℕ) (cells cells' room room' : List ℕ) (x y : Result (Option ℕ) Refusal) where
   same_verdict : VerdictAnswers FilledByInterval bytes horizon cells x cells' → VerdictAnswers FilledByAmount bytes horizon room y room' → x ≡ y
   same_verdict (filled₁, (v₁, is₁, gives₁)) (filled₂, (v₂, is₂, gives₂)) =
-      gives₁ ∙ ap verdict_answer (verdict_unique (graph bytes) (tasks bytes) horizon v₁ v₂ is₁ is₂) ∙ sym gives₂
+      gives₁ ∙ ap (λ (v : Verdict). Ok (first_overrun v)) (verdict_unique (graph bytes) (tasks bytes) horizon v₁ v₂ is₁ is₂) ∙ sym gives₂
 
   pub verdicts_alike : room_for bytes (horizon + 1) ≤ length cells → room_for bytes (horizon + 1) ≤ length room
       → VerdictByIntervalCall bytes horizon cells x cells' → VerdictByAmountCall bytes horizon room y room' → x ≡ y
@@ -85,7 +85,7 @@ module _ (bytes : List ℕ) (horizon : ℕ) (cells cells' room room' : List ℕ)
       (enough_alike bytes horizon (length cells) (length room) enough enough') second)
 
 module _ (bytes : List ℕ) (accepted : (judged bytes).answer ≡ Accepted) where
-  shortest_answered : (b : ℕ) (answer : ShortestAnswer) → 1 ≤ b → b ≤ longest_time + 1 → WithRoom bytes b (ShortestCall bytes b) answer
+  shortest_answered : (b : ℕ) (answer : Result ℕ Refusal) → 1 ≤ b → b ≤ longest_time + 1 → WithRoom bytes b (ShortestCall bytes b) answer
       → (time : ℕ) × IsShortest (graph bytes) b time × ShortestGives answer time
   unfolding ShortestCall
   shortest_answered b answer some few (cells, cells', enough, call) =
@@ -105,8 +105,8 @@ module _ (bytes : List ℕ) (accepted : (judged bytes).answer ≡ Accepted) wher
         Iff.trans tells curve;
     no_interval = λ b answer some few shortest.
         let least = shortest_answered b answer some few shortest in
-        let refused : (answer ≡ Refused 14 0) ↔ (least.0 ≡ no_time) = (told answer least.0 least.2).0 in
-        Iff.trans refused (none_enough (graph bytes) b least.0 some least.1);
+        let never : (answer ≡ refused NeverReached 0) ↔ (least.0 ≡ no_time) = (told answer least.0 least.2).0 in
+        Iff.trans never (none_enough (graph bytes) b least.0 some least.1);
     one_verdict = λ horizon x y few by-interval by_amount.
         verdicts_alike bytes horizon by-interval.0 by-interval.1 by_amount.0 by_amount.1 x y by-interval.2 by_amount.2 by-interval.3 by_amount.3;
   }

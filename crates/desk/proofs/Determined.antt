@@ -16,15 +16,14 @@ use Rattle.meaning.proofs.Verdicts.{verdict_unique}
 use Rattle.meaning.proofs.Filling.{filled_unique}
 use Rattle.fields.proofs.Deciding.{pick_alike}
 use Rattle.sheet.specs.Judging.{judged}
-use Rattle.desk.specs.Calls.{DemandRefuses, DemandGives, DemandAnswers, DemandCall, MarginRefuses, MarginAnswers, MarginCall, ShortestRefuses, ShortestGives, ShortestAnswers, ShortestCall, VerdictRefuses, VerdictAnswers, VerdictCall, VerdictByIntervalCall, VerdictByAmountCall, verdict_answer}
+use Rattle.desk.specs.Calls.{DemandRefuses, DemandGives, DemandAnswers, DemandCall, MarginRefuses, MarginAnswers, MarginCall, ShortestRefuses, ShortestGives, ShortestAnswers, ShortestCall, VerdictRefuses, VerdictAnswers, VerdictCall, VerdictByIntervalCall, VerdictByAmountCall, first_overrun}
 use Rattle.beginning.specs.Beginning.{graph, tasks, rows, FilledByInterval, FilledByAmount, interval_rules, amount_rules}
-use Rattle.desk.specs.declared.DemandAnswer as demand
-use Rattle.desk.specs.declared.DemandAnswer.TheVariants as demand-case
-use Rattle.desk.specs.declared.MarginAnswer as margin
-use Rattle.desk.specs.declared.MarginAnswer.TheVariants as margin-case
-use Rattle.desk.specs.declared.ShortestAnswer as shortest
-use Rattle.desk.specs.declared.ShortestAnswer.TheVariants as shortest-case
-use Rattle.desk.specs.declared.VerdictAnswer as verdict
+use Rattle.std.specs.Prelude.{Result, Ok, ℤ, Option}
+use Rattle.meaning.specs.Verdict.{Verdict}
+use Rattle.fields.specs.Refusals.{refused}
+use Rattle.fields.specs.declared.refusal.Reason.TheVariants.{ShortArea, NeverReached}
+use Rattle.fields.specs.declared.refusal.Refusal.{Refusal}
+use Rattle.desk.specs.declared.Attained.{Attained}
 use Rattle.beginning.proofs.Beginnings.{begins_alike}
 use Rattle.beginning.proofs.Showing.{shown_alike}
 
@@ -48,7 +47,7 @@ module _ (bytes : List ℕ) (count : ℕ) (old a b : List ℕ) where
   by_amount_unique = lines_unique (rows bytes) (ByAmount (graph bytes)) (λ line k. least_unique (graph bytes) k (line + 1)) old a b count
 
 -- `demand` has one answer, and leaves one content of the cells and of the area
-module _ (bytes : List ℕ) (t : ℕ) (cells area : List ℕ) (x y : demand.DemandAnswer) (cells₁ cells₂ area₁ area₂ : List ℕ) where
+module _ (bytes : List ℕ) (t : ℕ) (cells area : List ℕ) (x y : Result Attained Refusal) (cells₁ cells₂ area₁ area₂ : List ℕ) where
   demand_answered : DemandAnswers bytes t cells area x cells₁ area₁ → DemandAnswers bytes t cells area y cells₂ area₂
       → (x ≡ y) × (cells₁ ≡ cells₂) × (area₁ ≡ area₂)
   demand_answered (filled₁, (amount₁, witness₁, most₁, first₁, gives₁)) (filled₂, (amount₂, witness₂, most₂, first₂, gives₂)) =
@@ -57,7 +56,7 @@ module _ (bytes : List ℕ) (t : ℕ) (cells area : List ℕ) (x y : demand.Dema
       let gives : DemandGives area y area₂ amount₁ witness₁ =
       subst (λ (d : ℕ). DemandGives area y area₂ d witness₁) same-amount
       (subst (λ (w : List ℕ). DemandGives area y area₂ amount₂ w) same-witness gives₂) in
-      let alike = shown_alike witness₁ area (demand-case.Found amount₁ (length witness₁)) (demand-case.Refused 13 0) x y area₁ area₂ gives₁ gives in
+      let alike = shown_alike witness₁ area (Ok (record { amount = amount₁; count = length witness₁ })) (refused ShortArea 0) x y area₁ area₂ gives₁ gives in
       (alike.0, by_interval_unique bytes (t + 1) cells cells₁ cells₂ filled₁ filled₂, alike.1)
 
   pub demand_determined : DemandCall bytes t cells area x cells₁ area₁ → DemandCall bytes t cells area y cells₂ area₂
@@ -66,15 +65,15 @@ module _ (bytes : List ℕ) (t : ℕ) (cells area : List ℕ) (x y : demand.Dema
   demand_determined =
       begins_alike (judged bytes).answer (interval_rules bytes t (length cells))
       (DemandRefuses cells area x cells₁ area₁) (DemandRefuses cells area y cells₂ area₂) _ _ _
-      (λ number place (p : DemandRefuses cells area x cells₁ area₁ number place) (q : DemandRefuses cells area y cells₂ area₂ number place).
+      (λ reason place (p : DemandRefuses cells area x cells₁ area₁ reason place) (q : DemandRefuses cells area y cells₂ area₂ reason place).
       (p.0 ∙ sym q.0, p.1 ∙ sym q.1, p.2 ∙ sym q.2))
       demand_answered
 
 -- `margin` has one answer, and leaves one content of the cells
-module _ (bytes : List ℕ) (t : ℕ) (cells : List ℕ) (x y : margin.MarginAnswer) (cells₁ cells₂ : List ℕ) where
+module _ (bytes : List ℕ) (t : ℕ) (cells : List ℕ) (x y : Result ℤ Refusal) (cells₁ cells₂ : List ℕ) where
   margin_answered : MarginAnswers bytes t cells x cells₁ → MarginAnswers bytes t cells y cells₂ → (x ≡ y) × (cells₁ ≡ cells₂)
   margin_answered (filled₁, (m₁, is₁, gives₁)) (filled₂, (m₂, is₂, gives₂)) = (
-    gives₁ ∙ ap margin-case.Found (margin_unique (graph bytes) (tasks bytes) t m₁ m₂ is₁ is₂) ∙ sym gives₂,
+    gives₁ ∙ ap Ok (margin_unique (graph bytes) (tasks bytes) t m₁ m₂ is₁ is₂) ∙ sym gives₂,
     by_interval_unique bytes (t + 1) cells cells₁ cells₂ filled₁ filled₂,
   )
 
@@ -83,19 +82,19 @@ module _ (bytes : List ℕ) (t : ℕ) (cells : List ℕ) (x y : margin.MarginAns
   margin_determined =
       begins_alike (judged bytes).answer (interval_rules bytes t (length cells))
       (MarginRefuses cells x cells₁) (MarginRefuses cells y cells₂) _ _ _
-      (λ number place (p : MarginRefuses cells x cells₁ number place) (q : MarginRefuses cells y cells₂ number place).
+      (λ reason place (p : MarginRefuses cells x cells₁ reason place) (q : MarginRefuses cells y cells₂ reason place).
       (p.0 ∙ sym q.0, p.1 ∙ sym q.1))
       margin_answered
 
 -- `shortest` has one answer, and leaves one content of the cells
-module _ (bytes : List ℕ) (b : ℕ) (cells : List ℕ) (x y : shortest.ShortestAnswer) (cells₁ cells₂ : List ℕ) where
+module _ (bytes : List ℕ) (b : ℕ) (cells : List ℕ) (x y : Result ℕ Refusal) (cells₁ cells₂ : List ℕ) where
   shortest_answered : ShortestAnswers bytes b cells x cells₁ → ShortestAnswers bytes b cells y cells₂ → (x ≡ y) × (cells₁ ≡ cells₂)
   shortest_answered (filled₁, (time₁, is₁, gives₁)) (filled₂, (time₂, is₂, gives₂)) =
       let same-time : time₂ ≡ time₁ = shortest_unique (graph bytes) b time₂ time₁ is₂ is₁ in
       let gives : ShortestGives y time₁ = subst (λ (z : ℕ). ShortestGives y z) same-time gives₂ in (
         pick_alike (eqb time₁ no_time) _ _ _ _ _
-            (λ (p : x ≡ shortest-case.Refused 14 0) (q : y ≡ shortest-case.Refused 14 0). p ∙ sym q)
-            (λ (p : x ≡ shortest-case.Found time₁) (q : y ≡ shortest-case.Found time₁). p ∙ sym q)
+            (λ (p : x ≡ refused NeverReached 0) (q : y ≡ refused NeverReached 0). p ∙ sym q)
+            (λ (p : x ≡ Ok time₁) (q : y ≡ Ok time₁). p ∙ sym q)
             gives₁ gives,
         by_amount_unique bytes b cells cells₁ cells₂ filled₁ filled₂,
       )
@@ -105,18 +104,18 @@ module _ (bytes : List ℕ) (b : ℕ) (cells : List ℕ) (x y : shortest.Shortes
   shortest_determined =
       begins_alike (judged bytes).answer (amount_rules bytes b (length cells))
       (ShortestRefuses cells x cells₁) (ShortestRefuses cells y cells₂) _ _ _
-      (λ number place (p : ShortestRefuses cells x cells₁ number place) (q : ShortestRefuses cells y cells₂ number place).
+      (λ reason place (p : ShortestRefuses cells x cells₁ reason place) (q : ShortestRefuses cells y cells₂ reason place).
       (p.0 ∙ sym q.0, p.1 ∙ sym q.1))
       shortest_answered
 
 -- a verdict has one answer and leaves one content of the cells, with either table
 module _ (FilledBy : List ℕ → ℕ → List ℕ → List ℕ → Type 0)
     (one : (bytes : List ℕ) (count : ℕ) (old a b : List ℕ) → FilledBy bytes count old a → FilledBy bytes count old b → a ≡ b)
-    (bytes : List ℕ) (horizon : ℕ) (cells : List ℕ) (x y : verdict.VerdictAnswer) (cells₁ cells₂ : List ℕ) where
+    (bytes : List ℕ) (horizon : ℕ) (cells : List ℕ) (x y : Result (Option ℕ) Refusal) (cells₁ cells₂ : List ℕ) where
   verdict_answered : VerdictAnswers FilledBy bytes horizon cells x cells₁ → VerdictAnswers FilledBy bytes horizon cells y cells₂
       → (x ≡ y) × (cells₁ ≡ cells₂)
   verdict_answered (filled₁, (v₁, is₁, gives₁)) (filled₂, (v₂, is₂, gives₂)) = (
-    gives₁ ∙ ap verdict_answer (verdict_unique (graph bytes) (tasks bytes) horizon v₁ v₂ is₁ is₂) ∙ sym gives₂,
+    gives₁ ∙ ap (λ (v : Verdict). Ok (first_overrun v)) (verdict_unique (graph bytes) (tasks bytes) horizon v₁ v₂ is₁ is₂) ∙ sym gives₂,
     one bytes (horizon + 1) cells cells₁ cells₂ filled₁ filled₂,
   )
 
@@ -126,11 +125,11 @@ module _ (FilledBy : List ℕ → ℕ → List ℕ → List ℕ → Type 0)
   verdict_determined =
       begins_alike (judged bytes).answer (interval_rules bytes horizon (length cells))
       (VerdictRefuses cells x cells₁) (VerdictRefuses cells y cells₂) _ _ _
-      (λ number place (p : VerdictRefuses cells x cells₁ number place) (q : VerdictRefuses cells y cells₂ number place).
+      (λ reason place (p : VerdictRefuses cells x cells₁ reason place) (q : VerdictRefuses cells y cells₂ reason place).
       (p.0 ∙ sym q.0, p.1 ∙ sym q.1))
       verdict_answered
 
-module _ (bytes : List ℕ) (horizon : ℕ) (cells : List ℕ) (x y : verdict.VerdictAnswer) (cells₁ cells₂ : List ℕ) where
+module _ (bytes : List ℕ) (horizon : ℕ) (cells : List ℕ) (x y : Result (Option ℕ) Refusal) (cells₁ cells₂ : List ℕ) where
   pub verdict_by_interval_determined : VerdictByIntervalCall bytes horizon cells x cells₁ → VerdictByIntervalCall bytes horizon cells y cells₂
       → (x ≡ y) × (cells₁ ≡ cells₂)
   verdict_by_interval_determined = verdict_determined FilledByInterval by_interval_unique bytes horizon cells x y cells₁ cells₂

@@ -1,7 +1,7 @@
 -- What a caller can count on when lending: an area of as many bytes as the interval has ticks takes every witness.
 use Prim.Native.Nat.{ℕ, ◌+◌, ◌≤◌}
 use native.Mathlib.Omega.{arith}
-use mathlib.Core.Path.{◌≡◌, refl, sym, ◌∙◌}
+use mathlib.Core.Path.{◌≡◌, refl, sym, ap, ◌∙◌}
 use mathlib.Core.Bool.{Bool, true, false}
 use mathlib.Core.List.{List, [], ◌∷◌}
 use lib.Dec.{ltb}
@@ -14,21 +14,26 @@ use Rattle.sheet.specs.Proper.{Bytes}
 use Rattle.sheet.proofs.Accepted.{accepted_proper}
 use Rattle.sheet.proofs.ProperGraph.{proper_sound}
 use Rattle.sheet.proofs.Refusals.{refused_number}
-use Rattle.sheet.specs.declared.Answer.{Answer}
-use Rattle.sheet.specs.declared.Answer.TheVariants as sheet-case
+use Rattle.sheet.specs.Answer.{Answer}
+use Rattle.sheet.specs.Answer as sheet-case
 use Rattle.beginning.specs.Beginning.{graph, room_for, Begins}
 use Rattle.desk.specs.Calls.{DemandRefuses, DemandAnswers, DemandCall}
-use Rattle.desk.specs.declared.DemandAnswer as demand
-use Rattle.desk.specs.declared.DemandAnswer.TheVariants as demand-case
+use Rattle.std.specs.Prelude.{Result}
+use Rattle.fields.specs.Refusals.{rule_number, refused}
+use Rattle.fields.specs.declared.refusal.Reason.{Reason}
+use Rattle.fields.specs.declared.refusal.Reason.TheVariants.{OutOfRange, FewCells, ShortArea}
+use Rattle.fields.specs.declared.refusal.Refusal.{Refusal}
+use Rattle.desk.specs.declared.Attained.{Attained}
+use Rattle.beginning.proofs.Beginnings.{ok_not_refused}
 use Rattle.beginning.proofs.Showing.{shown_case}
-use Rattle.desk.proofs.Agreement.{found_not_refused}
 
-module _ (bytes : List ℕ) (are : Bytes bytes) (t : ℕ) (cells area : List ℕ) (answer : demand.DemandAnswer) (cells' area' : List ℕ) (enough : t ≤ length area) (told : answer ≡ demand-case.Refused 13 0) where
-  -- the refusals that a call begins with are all below 13
-  other_number : (n place : ℕ) → n ≤ 12 → DemandRefuses cells area answer cells' area' n place → ⊥
-  other_number n place few r =
-      let both : demand-case.Refused n place ≡ demand-case.Refused 13 0 = sym r.0 ∙ told in
-      let same : n ≡ 13 = cc in
+module _ (bytes : List ℕ) (are : Bytes bytes) (t : ℕ) (cells area : List ℕ) (answer : Result Attained Refusal) (cells' area' : List ℕ) (enough : t ≤ length area) (told : answer ≡ refused ShortArea 0) where
+  -- the rules that a call begins with are all below 13
+  other_reason : (reason : Reason) (place : ℕ) → rule_number reason ≤ 12 → DemandRefuses cells area answer cells' area' reason place → ⊥
+  other_reason reason place few r =
+      let both : ◌≡◌ {A = Result Attained Refusal} (refused reason place) (refused ShortArea 0) = sym r.0 ∙ told in
+      let same : ◌≡◌ {A = Refusal} (record { reason = reason; place = place }) (record { reason = ShortArea; place = 0 }) = cc in
+      let number : rule_number reason ≡ 13 = ap (λ (one : Refusal). rule_number one.reason) same in
       omega arith
 
   -- a witness has at most a row for each tick, so it is not 13 where the call comes to its answer
@@ -37,7 +42,7 @@ module _ (bytes : List ℕ) (are : Bytes bytes) (t : ℕ) (cells area : List ℕ
       let short : length witness ≤ t = witness_at_most (graph bytes) (proper_sound bytes (judged bytes).sheet (accepted_proper bytes are accepted)) t witness first in
       shown_case witness area _ _ ⊥ answer area'
       (λ long refused same. omega arith)
-      (λ fits found written. found_not_refused amount (length witness) 13 0 (sym found ∙ told))
+      (λ fits found written. ok_not_refused _ _ (sym found ∙ told))
       gives
 
   pub area_suffices : DemandCall bytes t cells area answer cells' area' → ⊥
@@ -45,8 +50,8 @@ module _ (bytes : List ℕ) (are : Bytes bytes) (t : ℕ) (cells area : List ℕ
   area_suffices call = go (judged bytes).answer refl (ltb longest_time t) (ltb (length cells) (room_for bytes (t + 1))) call
     where
       go : (a : Answer) → (judged bytes).answer ≡ a → (o f : Bool)
-          → Begins a (11 when o ∷ 12 when f ∷ []) (DemandRefuses cells area answer cells' area') (DemandAnswers bytes t cells area answer cells' area') → ⊥
-      go (sheet-case.Refused n place) e o f r = other_number n place (omega (arith, refused_number bytes n place e)) r
-      go sheet-case.Accepted e true f r = other_number 11 0 (omega arith) r
-      go sheet-case.Accepted e false true r = other_number 12 0 (omega arith) r
+          → Begins a (OutOfRange when o ∷ FewCells when f ∷ []) (DemandRefuses cells area answer cells' area') (DemandAnswers bytes t cells area answer cells' area') → ⊥
+      go (sheet-case.Refused reason place) e o f r = other_reason reason place (omega (arith, refused_number bytes reason place e)) r
+      go sheet-case.Accepted e true f r = other_reason OutOfRange 0 (omega arith) r
+      go sheet-case.Accepted e false true r = other_reason FewCells 0 (omega arith) r
       go sheet-case.Accepted e false false r = witness_fits e r

@@ -1,13 +1,8 @@
--- The numbers that each case of an answer stands for: the refusal's number and place, 0 where there is none, and the values, 0 in a refusal.
-use Rattle.std.specs.Prelude.{ℕ, ℤ, pos}
-use Rattle.desk.specs.declared.DemandAnswer as demand
-use Rattle.desk.specs.declared.DemandAnswer.TheVariants as demand-case
-use Rattle.desk.specs.declared.MarginAnswer as margin
-use Rattle.desk.specs.declared.MarginAnswer.TheVariants as margin-case
-use Rattle.desk.specs.declared.ShortestAnswer as shortest
-use Rattle.desk.specs.declared.ShortestAnswer.TheVariants as shortest-case
-use Rattle.desk.specs.declared.VerdictAnswer as verdict
-use Rattle.desk.specs.declared.VerdictAnswer.TheVariants as verdict-case
+-- The numbers that each answer stands for: the refusal's number and place, 0 where there is none, and the values, 0 in a refusal.
+use Rattle.std.specs.Prelude.{ℕ, ℤ, pos, Option, Some, None, Result, Ok, Err}
+use Rattle.fields.specs.Refusals.{rule_number}
+use Rattle.fields.specs.declared.refusal.Refusal.{Refusal}
+use Rattle.desk.specs.declared.Attained.{Attained}
 
 -- demand: the amount, and how many rows its witness has
 pub record DemandNumbers : Type 0 where
@@ -16,9 +11,9 @@ pub record DemandNumbers : Type 0 where
   pub amount : ℕ
   pub count : ℕ
 
-abbrev pub demand_numbers : demand.DemandAnswer → DemandNumbers
-demand_numbers (demand-case.Found amount count) = record { number = 0; place = 0; amount = amount; count = count }
-demand_numbers (demand-case.Refused number place) = record { number = number; place = place; amount = 0; count = 0 }
+abbrev pub demand_numbers : Result Attained Refusal → DemandNumbers
+demand_numbers (Ok attained) = record { number = 0; place = 0; amount = attained.amount; count = attained.count }
+demand_numbers (Err refusal) = record { number = rule_number refusal.reason; place = refusal.place; amount = 0; count = 0 }
 
 -- margin: with its sign
 pub record MarginNumbers : Type 0 where
@@ -26,9 +21,9 @@ pub record MarginNumbers : Type 0 where
   pub place : ℕ
   pub margin : ℤ
 
-abbrev pub margin_numbers : margin.MarginAnswer → MarginNumbers
-margin_numbers (margin-case.Found margin) = record { number = 0; place = 0; margin = margin }
-margin_numbers (margin-case.Refused number place) = record { number = number; place = place; margin = pos 0 }
+abbrev pub margin_numbers : Result ℤ Refusal → MarginNumbers
+margin_numbers (Ok margin) = record { number = 0; place = 0; margin = margin }
+margin_numbers (Err refusal) = record { number = rule_number refusal.reason; place = refusal.place; margin = pos 0 }
 
 -- shortest interval: the time
 pub record ShortestNumbers : Type 0 where
@@ -36,9 +31,9 @@ pub record ShortestNumbers : Type 0 where
   pub place : ℕ
   pub time : ℕ
 
-abbrev pub shortest_numbers : shortest.ShortestAnswer → ShortestNumbers
-shortest_numbers (shortest-case.Found time) = record { number = 0; place = 0; time = time }
-shortest_numbers (shortest-case.Refused number place) = record { number = number; place = place; time = 0 }
+abbrev pub shortest_numbers : Result ℕ Refusal → ShortestNumbers
+shortest_numbers (Ok time) = record { number = 0; place = 0; time = time }
+shortest_numbers (Err refusal) = record { number = rule_number refusal.reason; place = refusal.place; time = 0 }
 
 -- verdict: the first interval that is overrun, 0 where all hold
 pub record VerdictNumbers : Type 0 where
@@ -46,7 +41,7 @@ pub record VerdictNumbers : Type 0 where
   pub place : ℕ
   pub overrun : ℕ
 
-abbrev pub verdict_numbers : verdict.VerdictAnswer → VerdictNumbers
-verdict_numbers verdict-case.Holds = record { number = 0; place = 0; overrun = 0 }
-verdict_numbers (verdict-case.Overrun interval) = record { number = 0; place = 0; overrun = interval }
-verdict_numbers (verdict-case.Refused number place) = record { number = number; place = place; overrun = 0 }
+abbrev pub verdict_numbers : Result (Option ℕ) Refusal → VerdictNumbers
+verdict_numbers (Ok None) = record { number = 0; place = 0; overrun = 0 }
+verdict_numbers (Ok (Some interval)) = record { number = 0; place = 0; overrun = interval }
+verdict_numbers (Err refusal) = record { number = rule_number refusal.reason; place = refusal.place; overrun = 0 }

@@ -1,4 +1,5 @@
 pub mod Answers
 pub mod Calls
 pub mod Agreement
+pub mod Found
 pub mod WhichTable

@@ -1,136 +1,88 @@
 // What each call does once its sheet is accepted, its number is in range and its room is enough.
 ghost use Rattle.std.specs.Prelude.{◌≡◌, ◌+◌, ◌^◌, ◌≤◌, ◌<◌, pos, ◌-ℤ◌, length};
 ghost use Rattle.meaning.specs.Demand.{longest_time};
-ghost use Rattle.sheet.specs.Outline.{Handed};
-ghost use Rattle.overruns.specs.Sweeping.{verdict_of};
 ghost use Rattle.beginning.specs.Beginning.{room_for};
-ghost use Rattle.desk.specs.Calls.{DemandAnswers, MarginAnswers, ShortestAnswers, VerdictAnswers, verdict_answer};
+ghost use Rattle.desk.specs.Calls.{DemandAnswers, ShortestAnswers};
+ghost use Rattle.desk.specs.Found.{MarginFound, VerdictFound};
 ghost use Rattle.desk.specs.WhichTable.{filled_by};
 
-use crate::{DemandAnswer, MarginAnswer, ShortestAnswer, VerdictAnswer};
-use fields::values::Sheet;
-use filling::fill;
-use overruns::sweep::{Swept, sweep};
-use overruns::tasks::fixed_sum;
-use sheet::Head;
-use tables::Table;
+use crate::Attained;
+use beginning::accepted::AcceptedSheet;
+use fields::refusal::{Reason, Refusal};
+use filling::{Fillable, fill};
+use overruns::sweep::{Sweepable, sweep};
+use overruns::tasks::FixedTasks;
 use tables::amount::{NO_TIME, shortest_of};
-use tables::interval::{demand_of, job_lengths};
-use witness::{Shown, show_witness};
+use tables::interval::demand_of;
+use tables::{ByAmount, ByInterval};
+use witness::show_witness;
 
 // The table by interval, then the largest cell of its last line and the witness, or rule 13.
 pub(crate) fn demand_in(
-    bytes: &[u8],
-    head: Head,
-    places: &[usize; Sheet::ROWS],
+    sheet: &AcceptedSheet,
     t: usize,
     cells: &mut [u32],
     area: &mut [u8],
-) -> DemandAnswer
-    requires handed { Handed bytes.now head places.now }
-    requires t_le_longest_time { t ≤ longest_time }
-    requires t_in_bounds { room_for bytes.now (t + 1) ≤ length cells.old }
-    ensures { DemandAnswers bytes.now t cells.old area.old result cells.new area.new }
+) -> Result<Attained, Refusal>
+    requires in_range { t ≤ longest_time }
+    requires room { room_for sheet.now.bytes.now (t + 1) ≤ length cells.old }
+    ensures { DemandAnswers sheet.now.bytes.now t cells.old area.old result cells.new area.new }
 {
-    let tally = head.tally;
-    let n = tally.rows;
-    let lengths = job_lengths(bytes, head, places);
-    fill(Table::Interval, bytes, places, &lengths, n, cells, t + 1);
-    let amount = demand_of(cells, n, t);
-    match show_witness(bytes, places, &lengths, n, cells, t, area) {
-        Shown::Rows(count) => DemandAnswer::Found {
-            amount: amount,
-            count: count,
-        },
-        Shown::TooLong => DemandAnswer::Refused {
-            number: 13,
-            place: 0,
-        },
-    }
+    let rows = sheet.rows();
+    fill::<ByInterval>(&rows, cells, t + 1);
+    let amount = demand_of(cells, rows.count, t);
+    let count = show_witness(&rows, cells, t, area)?;
+    Ok(Attained { amount, count })
 }
 
 // The table by interval, then what both demands leave of the interval.
-pub(crate) fn margin_in(
-    bytes: &[u8],
-    head: Head,
-    places: &[usize; Sheet::ROWS],
-    t: usize,
-    cells: &mut [u32],
-) -> MarginAnswer
-    requires handed { Handed bytes.now head places.now }
-    requires t_le_longest_time { t ≤ longest_time }
-    requires t_in_bounds { room_for bytes.now (t + 1) ≤ length cells.old }
-    ensures { MarginAnswers bytes.now t cells.old result cells.new }
+pub(crate) fn margin_in(sheet: &AcceptedSheet, t: usize, cells: &mut [u32]) -> i64
+    requires in_range { t ≤ longest_time }
+    requires room { room_for sheet.now.bytes.now (t + 1) ≤ length cells.old }
+    ensures { MarginFound sheet.now.bytes.now t cells.old result cells.new }
 {
-    let tally = head.tally;
-    let n = tally.rows;
-    let lengths = job_lengths(bytes, head, places);
-    fill(Table::Interval, bytes, places, &lengths, n, cells, t + 1);
-    let amount = demand_of(cells, n, t) as u64;
-    let tasks = head.tasks;
-    let fixed = fixed_sum(tasks, tally.tasks, t);
-    let margin = less(t as u64, amount + fixed);
-    MarginAnswer::Found { margin: margin }
+    let rows = sheet.rows();
+    fill::<ByInterval>(&rows, cells, t + 1);
+    let engine = demand_of(cells, rows.count, t) as u64;
+    let fixed = FixedTasks::new(sheet.head.tasks, sheet.head.tally.tasks).demand_at(t);
+    less(t as u64, engine + fixed)
 }
 
 // The table by amount, then the smallest time of its last line; rule 14 where it has none.
 pub(crate) fn shortest_in(
-    bytes: &[u8],
-    head: Head,
-    places: &[usize; Sheet::ROWS],
+    sheet: &AcceptedSheet,
     amount: usize,
     cells: &mut [u32],
-) -> ShortestAnswer
-    requires handed { Handed bytes.now head places.now }
-    requires le_amount { 1 ≤ amount }
-    requires amount_bound { amount ≤ longest_time + 1 }
-    requires amount_in_bounds { room_for bytes.now amount ≤ length cells.old }
-    ensures { ShortestAnswers bytes.now amount cells.old result cells.new }
+) -> Result<u32, Refusal>
+    requires some { 1 ≤ amount }
+    requires in_range { amount ≤ longest_time + 1 }
+    requires room { room_for sheet.now.bytes.now amount ≤ length cells.old }
+    ensures { ShortestAnswers sheet.now.bytes.now amount cells.old result cells.new }
 {
-    let tally = head.tally;
-    let n = tally.rows;
-    let lengths = job_lengths(bytes, head, places);
-    fill(Table::Amount, bytes, places, &lengths, n, cells, amount);
-    let time = shortest_of(cells, n, amount);
+    let rows = sheet.rows();
+    fill::<ByAmount>(&rows, cells, amount);
+    let time = shortest_of(cells, rows.count, amount);
     if time == NO_TIME {
-        return ShortestAnswer::Refused {
-            number: 14,
-            place: 0,
-        };
+        return Err(Refusal::from(Reason::NeverReached));
     }
-    ShortestAnswer::Found { time: time }
+    Ok(time)
 }
 
 // All lines of a table, then the first interval that they show to be overrun.
-pub(crate) fn verdict_in(
-    table: Table,
-    bytes: &[u8],
-    head: Head,
-    places: &[usize; Sheet::ROWS],
+pub(crate) fn verdict_in<T: Fillable + Sweepable>(
+    sheet: &AcceptedSheet,
     horizon: usize,
     cells: &mut [u32],
-) -> VerdictAnswer
-    requires handed { Handed bytes.now head places.now }
-    requires horizon_le_longest_time { horizon ≤ longest_time }
-    requires horizon_in_bounds { room_for bytes.now (horizon + 1) ≤ length cells.old }
-    ensures { VerdictAnswers (filled_by table) bytes.now horizon cells.old result cells.new }
+) -> Option<u64>
+    requires in_range { horizon ≤ longest_time }
+    requires room { room_for sheet.now.bytes.now (horizon + 1) ≤ length cells.old }
+    ensures { VerdictFound (filled_by T.right) sheet.now.bytes.now horizon cells.old result cells.new }
 {
-    let tally = head.tally;
-    let n = tally.rows;
-    let lengths = job_lengths(bytes, head, places);
-    fill(table, bytes, places, &lengths, n, cells, horizon + 1);
-    let tasks = head.tasks;
-    let swept = sweep(table, tasks, tally.tasks, n, cells, horizon);
-    as_answer(swept)
-}
-
-fn as_answer(swept: Swept) -> VerdictAnswer
-    ensures { result ≡ verdict_answer (verdict_of swept) }
-{
-    match swept {
-        Swept::Holds => VerdictAnswer::Holds,
-        Swept::Overrun(t) => VerdictAnswer::Overrun { interval: t as u64 },
-    }
+    let rows = sheet.rows();
+    fill::<T>(&rows, cells, horizon + 1);
+    let tasks = FixedTasks::new(sheet.head.tasks, sheet.head.tally.tasks);
+    let overrun = sweep::<T>(&tasks, rows.count, cells, horizon)?;
+    Some(overrun as u64)
 }
 
 // A difference with its sign.

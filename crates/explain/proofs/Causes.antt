@@ -38,7 +38,7 @@ sums_exceed Fixed t engine fixed p = omega (arith, p.1)
 sums_exceed Together t engine fixed p = p.2
 
 -- and where they are more, those of one hold
-some_sums : (t engine fixed : ℕ) → t < engine + fixed → (cause : Cause) × Sums cause t engine fixed
+pub some_sums : (t engine fixed : ℕ) → t < engine + fixed → (cause : Cause) × Sums cause t engine fixed
 some_sums t engine fixed more =
     ⊎_elim
     (λ l. (Engine, l))

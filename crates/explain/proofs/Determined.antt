@@ -9,6 +9,10 @@ use Rattle.meaning.specs.Fixed.{fixed_sum}
 use Rattle.meaning.specs.Verdict.{Verdict, holds, overrun}
 use Rattle.meaning.proofs.Unique.{demand_unique, witness_unique}
 use Rattle.meaning.proofs.Verdicts.{verdict_unique}
+use Rattle.std.specs.Prelude.{Result, Ok}
+use Rattle.fields.specs.Refusals.{refused}
+use Rattle.fields.specs.declared.refusal.Reason.TheVariants.{ShortArea}
+use Rattle.fields.specs.declared.refusal.Refusal.{Refusal}
 use Rattle.fields.proofs.Deciding.{pick_alike}
 use Rattle.sheet.specs.Judging.{judged}
 use Rattle.beginning.specs.Beginning.{graph, tasks, interval_rules}
@@ -17,17 +21,17 @@ use Rattle.beginning.proofs.Beginnings.{begins_alike}
 use Rattle.beginning.proofs.Showing.{shown_alike}
 use Rattle.desk.proofs.Determined.{by_interval_unique}
 use Rattle.explain.specs.Reasons.{Sums, IsSmallestMargin}
-use Rattle.explain.specs.Calls.{without_demands, failing, ExplainRefuses, FailsAt, HoldsTo, Explains, ExplainAnswers, ExplainCall}
+use Rattle.explain.specs.Calls.{failing, ExplainRefuses, FailsAt, HoldsTo, Explains, ExplainAnswers, ExplainCall}
 use Rattle.explain.specs.declared.Cause.{Cause}
-use Rattle.explain.specs.declared.ExplainAnswer.TheVariants.{Holds, NoInterval, Refused}
 use Rattle.explain.specs.declared.Explained.{Explained}
+use Rattle.explain.specs.declared.Explained.TheVariants.{Holds, NoInterval, Fails}
 use Rattle.explain.proofs.Causes.{sums_exclude}
 use Rattle.explain.proofs.SmallestMargins.{smallest_unique}
 
-module _ (bytes : List ℕ) (horizon : ℕ) (cells area : List ℕ) (x y : Explained) (cells₁ cells₂ area₁ area₂ : List ℕ) where
+module _ (bytes : List ℕ) (horizon : ℕ) (cells area : List ℕ) (x y : Result Explained Refusal) (cells₁ cells₂ area₁ area₂ : List ℕ) where
   -- what is told for one cause, one amount and one witness
-  Told : ℕ → Cause → ℕ → List ℕ → Explained → List ℕ → Type 0
-  Told t cause engine witness = WitnessShown witness area (failing (tasks bytes) t cause engine (length witness)) (without_demands (Refused 13 0))
+  Told : ℕ → Cause → ℕ → List ℕ → Result Explained Refusal → List ℕ → Type 0
+  Told t cause engine witness = WitnessShown witness area (Ok (Fails (failing (tasks bytes) t cause engine (length witness)))) (refused ShortArea 0)
 
   fails_alike : (t : ℕ) → FailsAt bytes t area x area₁ → FailsAt bytes t area y area₂ → (x ≡ y) × (area₁ ≡ area₂)
   unfolding Told
@@ -46,11 +50,11 @@ module _ (bytes : List ℕ) (horizon : ℕ) (cells area : List ℕ) (x y : Expla
   holds_alike : HoldsTo bytes horizon x → HoldsTo bytes horizon y → x ≡ y
   holds_alike =
       pick_alike (eqb horizon 0) _ _ _ _ _
-      (λ (p : x ≡ without_demands NoInterval) (q : y ≡ without_demands NoInterval). p ∙ sym q)
-      (λ (p : (t : ℕ) × (margin : ℕ) × IsSmallestMargin (graph bytes) (tasks bytes) horizon t (pos margin) × (x ≡ without_demands (Holds margin t)))
-      (q : (t : ℕ) × (margin : ℕ) × IsSmallestMargin (graph bytes) (tasks bytes) horizon t (pos margin) × (y ≡ without_demands (Holds margin t))).
+      (λ (p : x ≡ Ok NoInterval) (q : y ≡ Ok NoInterval). p ∙ sym q)
+      (λ (p : (t : ℕ) × (margin : ℕ) × IsSmallestMargin (graph bytes) (tasks bytes) horizon t (pos margin) × (x ≡ Ok (Holds margin t)))
+      (q : (t : ℕ) × (margin : ℕ) × IsSmallestMargin (graph bytes) (tasks bytes) horizon t (pos margin) × (y ≡ Ok (Holds margin t))).
       let same = smallest_unique (graph bytes) (tasks bytes) horizon p.0 q.0 p.1 q.1 p.2 q.2 in
-      p.3 ∙ ap₂ (λ (margin t : ℕ). without_demands (Holds margin t)) same.1 same.0 ∙ sym q.3)
+      p.3 ∙ ap₂ (λ (margin t : ℕ). Ok (Holds margin t)) same.1 same.0 ∙ sym q.3)
 
   explains_alike : (v : Verdict) → Explains bytes horizon area v x area₁ → Explains bytes horizon area v y area₂ → (x ≡ y) × (area₁ ≡ area₂)
   explains_alike holds p q = (holds_alike p.0 q.0, p.1 ∙ sym q.1)
@@ -69,6 +73,6 @@ module _ (bytes : List ℕ) (horizon : ℕ) (cells area : List ℕ) (x y : Expla
   explain_determined =
       begins_alike (judged bytes).answer (interval_rules bytes horizon (length cells))
       (ExplainRefuses cells area x cells₁ area₁) (ExplainRefuses cells area y cells₂ area₂) _ _ _
-      (λ number place (p : ExplainRefuses cells area x cells₁ area₁ number place) (q : ExplainRefuses cells area y cells₂ area₂ number place).
+      (λ reason place (p : ExplainRefuses cells area x cells₁ area₁ reason place) (q : ExplainRefuses cells area y cells₂ area₂ reason place).
       (p.0 ∙ sym q.0, p.1 ∙ sym q.1, p.2 ∙ sym q.2))
       explain_answered

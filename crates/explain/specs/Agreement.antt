@@ -1,14 +1,14 @@
 -- What it means that `explain` and a verdict say the same.
-use Rattle.std.specs.Prelude.{ℕ, ◌⊎◌, ◌≡◌}
-use Rattle.desk.specs.declared.VerdictAnswer.{VerdictAnswer}
-use Rattle.desk.specs.declared.VerdictAnswer.TheVariants as verdict-case
-use Rattle.explain.specs.declared.ExplainAnswer.{ExplainAnswer}
-use Rattle.explain.specs.declared.ExplainAnswer.TheVariants.{Holds, NoInterval, Fails, Refused}
+use Rattle.std.specs.Prelude.{ℕ, ◌⊎◌, ◌≡◌, Option, Some, None, Result, Ok, Err}
+use Rattle.fields.specs.declared.refusal.Reason.TheVariants.{ShortArea}
+use Rattle.fields.specs.declared.refusal.Refusal.{Refusal}
+use Rattle.explain.specs.declared.Explained.{Explained}
+use Rattle.explain.specs.declared.Explained.TheVariants.{Holds, NoInterval, Fails}
 
 -- the verdict holds, names the same interval, or refuses alike; refusal 13, which no verdict has, is given where the verdict fails
-abbrev pub SameVerdict : ExplainAnswer → VerdictAnswer → Type 0
-SameVerdict (Holds margin interval) verdict = verdict ≡ verdict-case.Holds
-SameVerdict NoInterval verdict = verdict ≡ verdict-case.Holds
-SameVerdict (Fails interval cause engine excess count) verdict = verdict ≡ verdict-case.Overrun interval
-SameVerdict (Refused number place) verdict =
-    (verdict ≡ verdict-case.Refused number place) ⊎ ((number ≡ 13) × (place ≡ 0) × ((interval : ℕ) × (verdict ≡ verdict-case.Overrun interval)))
+abbrev pub SameVerdict : Result Explained Refusal → Result (Option ℕ) Refusal → Type 0
+SameVerdict (Ok (Holds margin interval)) verdict = verdict ≡ Ok None
+SameVerdict (Ok NoInterval) verdict = verdict ≡ Ok None
+SameVerdict (Ok (Fails told)) verdict = verdict ≡ Ok (Some told.interval)
+SameVerdict (Err refusal) verdict =
+    (verdict ≡ Err refusal) ⊎ ((refusal ≡ record { reason = ShortArea; place = 0 }) × ((interval : ℕ) × (verdict ≡ Ok (Some interval))))

@@ -2,102 +2,75 @@
 ghost use Rattle.std.specs.Prelude.{◌≡◌, ◌+◌, ◌*◌, ◌≤◌, ◌<◌, length};
 ghost use Rattle.meaning.specs.Demand.{longest_time};
 ghost use Rattle.meaning.specs.Fixed.{fixed_sum};
-ghost use Rattle.sheet.specs.Outline.{Handed};
 ghost use Rattle.tables.specs.Lines.{demand_in};
-ghost use Rattle.overruns.specs.Releases.{counted_tasks, ProperTasks};
+ghost use Rattle.overruns.specs.Releases.{counted_tasks};
 ghost use Rattle.beginning.specs.Beginning.{room_for};
 ghost use Rattle.explain.specs.Reasons.{Sums};
-ghost use Rattle.explain.specs.Calls.{without_demands, ExplainAnswers};
+ghost use Rattle.explain.specs.Calls.{ExplainAnswers};
 ghost use Rattle.explain.specs.Looking.{ToldAt};
 
 use crate::demands::demands_at;
 use crate::looking::{Tightest, look_over};
-use crate::{Cause, ExplainAnswer, Explained};
-use fields::values::{Sheet, Task};
+use crate::{Cause, Explained, Overrun};
+use beginning::accepted::AcceptedSheet;
+use fields::refusal::Refusal;
 use filling::fill;
-use sheet::Head;
-use tables::Table;
-use tables::interval::{demand_of, job_lengths};
-use witness::{Shown, show_witness};
+use overruns::tasks::FixedTasks;
+use tables::ByInterval;
+use tables::interval::demand_of;
+use witness::show_witness;
 
 // The whole table by interval, also behind an overrun, then one pass over its lines.
 pub(crate) fn explain_in(
-    bytes: &[u8],
-    head: Head,
-    places: &[usize; Sheet::ROWS],
+    sheet: &AcceptedSheet,
     horizon: usize,
     cells: &mut [u32],
     area: &mut [u8],
-) -> Explained
-    requires handed { Handed bytes.now head places.now }
-    requires horizon_le_longest_time { horizon ≤ longest_time }
-    requires horizon_in_bounds { room_for bytes.now (horizon + 1) ≤ length cells.old }
-    ensures { ExplainAnswers bytes.now horizon cells.old area.old result cells.new area.new }
+) -> Result<Explained, Refusal>
+    requires in_range { horizon ≤ longest_time }
+    requires room { room_for sheet.now.bytes.now (horizon + 1) ≤ length cells.old }
+    ensures { ExplainAnswers sheet.now.bytes.now horizon cells.old area.old result cells.new area.new }
 {
-    let tally = head.tally;
-    let tasks = head.tasks;
-    let n = tally.rows;
-    let lengths = job_lengths(bytes, head, places);
-    fill(
-        Table::Interval,
-        bytes,
-        places,
-        &lengths,
-        n,
-        cells,
-        horizon + 1,
-    );
-    match look_over(tasks, tally.tasks, n, cells, horizon) {
-        Tightest::Nothing => without_demands(ExplainAnswer::NoInterval),
-        Tightest::Margin { margin, interval } => without_demands(ExplainAnswer::Holds {
-            margin: margin,
+    let rows = sheet.rows();
+    let tasks = FixedTasks::new(sheet.head.tasks, sheet.head.tally.tasks);
+    fill::<ByInterval>(&rows, cells, horizon + 1);
+    match look_over(&tasks, rows.count, cells, horizon) {
+        Tightest::Nothing => Ok(Explained::NoInterval),
+        Tightest::Margin { margin, interval } => Ok(Explained::Holds {
+            margin,
             interval: interval as u64,
         }),
         Tightest::Overrun { interval, fixed } => {
-            let shown = show_witness(bytes, places, &lengths, n, cells, interval, area);
-            overrun_at(tasks, tally.tasks, n, interval, fixed, cells, shown)
+            let count = show_witness(&rows, cells, interval, area)?;
+            Ok(Explained::Fails(overrun_at(&tasks, rows.count, interval, fixed, cells, count)))
         }
     }
 }
 
-// The numbers of an overrun at t with its witness as it was shown, or rule 13.
+// The numbers of an overrun at t whose witness has so many rows.
 fn overrun_at(
-    tasks: [Task; Sheet::TASKS],
-    count: usize,
+    tasks: &FixedTasks,
     n: usize,
     t: usize,
     fixed: u64,
     cells: &[u32],
-    shown: Shown,
-) -> Explained
-    requires proper_tasks { ProperTasks tasks count }
-    requires t_le_longest_time { t ≤ longest_time }
-    requires t_in_bounds { n * (t + 1) ≤ length cells.now }
-    requires fixed_value { fixed ≡ fixed_sum (counted_tasks tasks count) t }
-    requires t_bound { t < demand_in n cells.now t + fixed }
-    ensures { ToldAt n tasks count cells.now t fixed shown result }
+    count: usize,
+) -> Overrun
+    requires in_range { t ≤ longest_time }
+    requires room { n * (t + 1) ≤ length cells.now }
+    requires fixed_demand { fixed ≡ fixed_sum (counted_tasks tasks.now.tasks tasks.now.count) t }
+    requires overrun { t < demand_in n cells.now t + fixed }
+    ensures { ToldAt n tasks.now.tasks tasks.now.count cells.now t fixed count result }
 {
     let engine = demand_of(cells, n, t);
-    let cause = cause_of(t as u64, engine as u64, fixed);
-    match shown {
-        Shown::TooLong => without_demands(ExplainAnswer::Refused {
-            number: 13,
-            place: 0,
-        }),
-        Shown::Rows(rows) => {
-            let excess = engine as u64 + fixed - t as u64;
-            let answer = ExplainAnswer::Fails {
-                interval: t as u64,
-                cause: cause,
-                engine: engine,
-                excess: excess,
-                count: rows,
-            };
-            Explained {
-                answer: answer,
-                demands: demands_at(tasks, count, t),
-            }
-        }
+    let demands = demands_at(tasks, t);
+    Overrun {
+        interval: t as u64,
+        cause: cause_of(t as u64, engine as u64, fixed),
+        engine,
+        demands,
+        excess: engine as u64 + fixed - t as u64,
+        count,
     }
 }
 
@@ -113,14 +86,4 @@ fn cause_of(t: u64, engine: u64, fixed: u64) -> Cause
         return Cause::Fixed;
     }
     Cause::Together
-}
-
-// An answer that comes without demands of tasks.
-pub(crate) fn without_demands(answer: ExplainAnswer) -> Explained
-    ensures { result ≡ without_demands answer }
-{
-    Explained {
-        answer: answer,
-        demands: [0u64; Sheet::TASKS],
-    }
 }

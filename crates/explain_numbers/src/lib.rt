@@ -2,9 +2,10 @@
 #![tactic(auto)]
 
 ghost use Rattle.std.specs.Prelude.{◌≡◌};
-ghost use Rattle.explain_numbers.specs.Flat.{cause_number, demands_alone, flat_explained};
+ghost use Rattle.explain_numbers.specs.Flat.{cause_number, flat_explained};
 
-use explain::{Cause, ExplainAnswer, Explained};
+use explain::{Cause, Explained};
+use fields::refusal::Refusal;
 use fields::values::Sheet;
 
 // `number` is 0, or the refusal's number with its place, and then all else is 0. From `overrun` to `count` all is 0 where nothing is overrun, and `margin` and `interval` are 0 where something is.
@@ -23,57 +24,56 @@ pub struct ExplainForC {
     pub interval: u64,
 }
 
-pub fn explain_numbers(explained: Explained) -> ExplainForC
-    ensures { result ≡ flat_explained explained }
-{
-    let answer = explained.answer;
-    let demands = explained.demands;
-    let mut numbers = demands_alone(demands);
-    match answer {
-        ExplainAnswer::Holds { margin, interval } => {
-            numbers.margin = margin;
-            numbers.interval = interval;
-        }
-        ExplainAnswer::NoInterval => {}
-        ExplainAnswer::Fails {
-            interval,
-            cause,
-            engine,
-            excess,
-            count,
-        } => {
-            numbers.overrun = interval;
-            numbers.cause = cause_number(cause);
-            numbers.engine = engine;
-            numbers.excess = excess;
-            numbers.count = count;
-        }
-        ExplainAnswer::Refused { number, place } => {
-            numbers.number = number;
-            numbers.place = place;
-        }
-    }
-    numbers
-}
-
-// Nothing but the demands of the fixed tasks.
-fn demands_alone(demands: [u64; Sheet::TASKS]) -> ExplainForC
-    ensures { result ≡ demands_alone demands }
-{
-    ExplainForC {
+impl ExplainForC {
+    // A verdict that holds, with no interval to tell of.
+    const NONE: ExplainForC = ExplainForC {
         number: 0,
         place: 0,
         overrun: 0,
         cause: 0,
         engine: 0,
-        demands: demands,
+        demands: [0; Sheet::TASKS],
         excess: 0,
         count: 0,
         margin: 0,
         interval: 0,
+    };
+}
+
+impl From<Result<Explained, Refusal>> for ExplainForC {
+    ghost from_gives = { λ answer numbers. numbers ≡ flat_explained answer };
+
+    fn from(answer: Result<Explained, Refusal>) -> ExplainForC {
+        match answer {
+            Ok(Explained::Holds { margin, interval }) => ExplainForC {
+                margin,
+                interval,
+                ..ExplainForC::NONE
+            },
+            Ok(Explained::NoInterval) => ExplainForC::NONE,
+            Ok(Explained::Fails(first)) => {
+                // An array is laid into a struct by a name of its own; the borrow checker asks for that.
+                let demands = first.demands;
+                ExplainForC {
+                    overrun: first.interval,
+                    cause: cause_number(first.cause),
+                    engine: first.engine,
+                    demands,
+                    excess: first.excess,
+                    count: first.count,
+                    ..ExplainForC::NONE
+                }
+            }
+            Err(refusal) => ExplainForC {
+                number: refusal.number(),
+                place: refusal.place,
+                ..ExplainForC::NONE
+            },
+        }
     }
 }
 
+// The numbers of causes are C's alone, so they stand here and not at `Cause`.
 fn cause_number(cause: Cause) -> u8
     ensures { result ≡ cause_number cause }
 {

@@ -9,7 +9,9 @@ use contract.Lifetimes.{Lfts}
 use contract.Monad.{Fun, fact}
 use denote.Triple.Clauses.{Ended, Clauses, AtExit}
 use denote.Triple.Entry.{Args, Res}
-use Rattle.fields.specs.declared.reader.Step.{Step}
+use Rattle.std.specs.Prelude.{Result}
+use Rattle.fields.specs.declared.reader.Field.{Field}
+use Rattle.fields.specs.declared.refusal.Refusal.{Refusal}
 use Rattle.fieldreader.specs.declared.Reader.{Reader}
 use Rattle.fieldreader.specs.contracts.Reader.new as new
 use Rattle.fieldreader.specs.contracts.Reader.step as step
@@ -47,7 +49,7 @@ new_one =
 
 -- of a step, the answer and the reader that it leaves
 abbrev AfterStep : Type 0
-AfterStep = Step × Reader
+AfterStep = Result Field Refusal × Reader
 
 pub step_one : Determined step.ended {A = AfterStep} (λ M 𝓤 𝓛. step.clauses 𝓛) (λ κs x s. (x, s.0.now))
 step_one =

@@ -3,9 +3,10 @@
 
 ghost use Rattle.std.specs.Prelude.{◌≡◌};
 ghost use Rattle.fields.specs.Reading.{field_at};
-ghost use Rattle.fieldreader.specs.Moving.{step_at, stepped};
+ghost use Rattle.fieldreader.specs.Moving.{stepped};
 
-use fields::reader::{Step, field_at};
+use fields::reader::{Field, field_at};
+use fields::refusal::Refusal;
 
 #[derive(Clone, Copy)]
 pub struct Reader<'a> {
@@ -22,38 +23,11 @@ impl<'a> Reader<'a> {
     }
 
     // The field or the refusal at its place. On a field the reader moves to the next one; else it stays.
-    pub fn step(&mut self) -> Step
+    pub fn step(&mut self) -> Result<Field, Refusal>
         ensures { (result ≡ field_at self.old.bytes.now self.old.at) × (self.new ≡ stepped self.old) }
     {
-        let taken = step_at(self.bytes, self.at);
-        self.at = taken.after;
-        taken.step
+        let field = field_at(self.bytes, self.at)?;
+        self.at = field.next;
+        Ok(field)
     }
-}
-
-// What a step tells, and the place after it.
-#[derive(Clone, Copy)]
-struct Taken {
-    step: Step,
-    after: usize,
-}
-
-// The step at a place. The header is read once, for both.
-fn step_at(bytes: &[u8], at: usize) -> Taken
-    ensures { result ≡ step_at bytes.now at }
-{
-    let step = field_at(bytes, at);
-    let after = match step {
-        Step::Field {
-            kind: _,
-            start: _,
-            size: _,
-            next,
-        } => next,
-        Step::Refusal {
-            number: _,
-            place: _,
-        } => at,
-    };
-    Taken { step, after }
 }

@@ -1,16 +1,26 @@
--- How a chain of tests is decided, one test after the other (`search judging`), and what the number of the first broken rule says.
-use Prim.Native.Nat.{ℕ, zero, suc, ◌+◌, ◌-◌, ◌<◌, ◌≤◌}
-use native.Mathlib.Nat.{sub-eq-zero_of_le, eq-or-lt_of_le}
-use native.Mathlib.Numerals.{add-one}
+-- How a chain of tests is decided, one test after the other (`search judging`), and what the first broken rule says.
+use Prim.Native.Nat.{ℕ, zero, suc, ◌+◌, ◌<◌, ◌≤◌}
+use native.Mathlib.Nat.{eq-or-lt_of_le}
 use native.Mathlib.Omega.{arith}
-use mathlib.Core.Path.{◌≡◌, ◌∙◌, refl, sym}
+use mathlib.Core.Path.{◌≡◌, ◌∙◌, refl, sym, ap}
 use mathlib.Core.Logic.{⊎_elim}
 use mathlib.Core.List.{List, [], ◌∷◌, ◌++◌}
 use mathlib.Core.Bool.{Bool, true, false, ◌&&◌, true≢false}
 use lib.Dec.{T, ltb, leb, leb→le}
 use mir.Facts.{and_yes, yes_and}
 use borrow.Author.Tests.{lt-ltb, le-ltb, le-leb, lt-leb, eq-eqb, ne_eqb, ltb-true, ltb-false}
+use Rattle.std.specs.Prelude.{Result, Ok, Err, is_ok}
+use Rattle.std.proofs.Common.{Ordering, Less, Equal, Greater}
+use Rattle.std.specs.Ordering.{MatchOrdering, nat_cmp, is_lt as before, is_le as upto}
+use Rattle.std.specs.Cmp.{ranks}
+use denote.Enum.Bare.{sameb}
+use Rattle.fields.specs.contracts.table.Kind.{the_type}
+use Rattle.fields.specs.declared.table.Kind.{Kind}
+use Rattle.fields.specs.declared.table.Kind.TheVariants.{RefusedTag, LabelField, ModeField, RowField, TaskField, EndField, SkippedField}
+use Rattle.fields.specs.Fields.{is_refused, is_end}
 use Rattle.fields.specs.Deciding.{Rule, ◌when◌, pick, judged_by, first_broken, any_from}
+use Rattle.fields.specs.Refusals.{rule_number}
+use Rattle.fields.specs.declared.refusal.Reason.{Reason}
 
 pub yes : {A : Type 0} (b : Bool) (x y z : A) → b ≡ true → z ≡ x → z ≡ pick b x y
 unfolding pick
@@ -54,27 +64,58 @@ told_le r a b p q = ltb-false a b (told r (ltb a b) false p q)
 pub kept : {A : Type 0} (b : Bool) (x y z : A) (r : Bool) → r ≡ b → r ≡ false → z ≡ y → z ≡ pick b x y
 kept b x y z r p q h = no b x y z (told r b false p q) h
 
-pub ruleset judging = (no, yes, told, is_lt, is_not_lt, lt-ltb, le-ltb, le-leb, lt-leb, eq-eqb, ne_eqb)
+-- what the derived comparisons of speeds and times answer, in the words of the definitions
+pub below_ltb : (a b : ℕ) → before (nat_cmp a b) ≡ ltb a b
+below_ltb a b = go (nat_cmp a b) (ranks a b)
+  where
+    go : (o : Ordering) → MatchOrdering o (a < b) (a ≡ b) (b < a) → before o ≡ ltb a b
+    go Less h = sym (lt-ltb a b h)
+    go Equal h = sym (le-ltb a b (omega arith))
+    go Greater h = sym (le-ltb a b (omega arith))
 
--- a loop that looks for the first number that passes a test, from k up to e
-module _ (f : ℕ → Bool) (k e : ℕ) where
-  any_next : k < e → any_from f k (e - k) ≡ pick (f k) true (any_from f (k + 1) (e - (k + 1)))
-  unfolding any_from
-  any_next h =
-      let m : e - k ≡ suc (e - (k + 1)) = omega arith in
-      rw (m, add-one k) refl
+pub upto_leb : (a b : ℕ) → upto (nat_cmp a b) ≡ leb a b
+upto_leb a b = go (nat_cmp a b) (ranks a b)
+  where
+    go : (o : Ordering) → MatchOrdering o (a < b) (a ≡ b) (b < a) → upto o ≡ leb a b
+    go Less h = sym (le-leb a b (omega arith))
+    go Equal h = sym (le-leb a b (omega arith))
+    go Greater h = sym (lt-leb a b h)
 
-  pub any_hit : k < e → f k ≡ true → any_from f k (e - k) ≡ true
-  unfolding pick
-  any_hit h t = any_next h ∙ rw t refl
+pub answers_lt : (r : Bool) (a b : ℕ) → r ≡ before (nat_cmp a b) → r ≡ ltb a b
+answers_lt r a b p = p ∙ below_ltb a b
 
-  pub any_miss : k < e → f k ≡ false → any_from f k (e - k) ≡ any_from f (k + 1) (e - (k + 1))
-  unfolding pick
-  any_miss h t = any_next h ∙ rw t refl
+pub answers_le : (r : Bool) (a b : ℕ) → r ≡ upto (nat_cmp a b) → r ≡ leb a b
+answers_le r a b p = p ∙ upto_leb a b
 
-  pub any_none : e ≤ k → any_from f k (e - k) ≡ false
-  unfolding any_from
-  any_none h = rw (sub-eq-zero_of_le h) refl
+pub told_before : (r : Bool) (a b : ℕ) (v : Bool) → r ≡ before (nat_cmp a b) → r ≡ v → ltb a b ≡ v
+told_before r a b v p q = told r (ltb a b) v (answers_lt r a b p) q
+
+pub told_upto : (r : Bool) (a b : ℕ) (v : Bool) → r ≡ upto (nat_cmp a b) → r ≡ v → leb a b ≡ v
+told_upto r a b v p q = told r (leb a b) v (answers_le r a b p) q
+
+-- and what `==` answers of a kind
+pub refused_kind : (kind : Kind) → sameb the_type kind RefusedTag ≡ is_refused kind
+refused_kind RefusedTag = refl
+refused_kind LabelField = refl
+refused_kind ModeField = refl
+refused_kind RowField = refl
+refused_kind TaskField = refl
+refused_kind EndField = refl
+refused_kind SkippedField = refl
+
+pub told_refused : (r : Bool) (kind other : Kind) (v : Bool) → kind ≡ other → r ≡ sameb the_type kind RefusedTag → r ≡ v → is_refused other ≡ v
+told_refused r kind other v e p q = ap is_refused (sym e) ∙ sym (refused_kind kind) ∙ told r (sameb the_type kind RefusedTag) v p q
+
+pub end_kind : (kind : Kind) → sameb the_type kind EndField ≡ is_end kind
+end_kind RefusedTag = refl
+end_kind LabelField = refl
+end_kind ModeField = refl
+end_kind RowField = refl
+end_kind TaskField = refl
+end_kind EndField = refl
+end_kind SkippedField = refl
+
+pub ruleset judging = (no, yes, told, told_before, told_upto, answers_lt, answers_le, is_lt, is_not_lt, lt-ltb, le-ltb, le-leb, lt-leb, eq-eqb, ne_eqb)
 
 -- neither of two tests held
 pub neither : (a b : Bool) → pick a true b ≡ false → (a ≡ false) × (b ≡ false)
@@ -94,76 +135,78 @@ any_false f k (suc n) e i l h =
 abbrev pub last_rule : ℕ
 last_rule = 10
 
--- a number with which a file is refused
-abbrev pub OfFile : ℕ → Type 0
-OfFile n = (1 ≤ n) × (n ≤ last_rule)
+-- a reason for which a file is refused
+abbrev pub OfFile : Reason → Type 0
+OfFile reason = (1 ≤ rule_number reason) × (rule_number reason ≤ last_rule)
 
--- every rule has such a number: a test that antt computes on a written list
-abbrev pub numbered : List Rule → Bool
-numbered [] = true
-numbered (n when b ∷ rules) = leb 1 n && leb n last_rule && numbered rules
+-- every rule has such a reason: a test that antt computes on a written list
+abbrev pub of_file : List Rule → Bool
+of_file [] = true
+of_file (reason when b ∷ rules) = leb 1 (rule_number reason) && leb (rule_number reason) last_rule && of_file rules
 
-pub first_numbered : (n : ℕ) (b : Bool) (rules : List Rule) → T (numbered (n when b ∷ rules)) → OfFile n × T (numbered rules)
-first_numbered n b rules t =
-    let all = and_yes (leb 1 n && leb n last_rule) (numbered rules) t in
-    let own = and_yes (leb 1 n) (leb n last_rule) all.0 in
-    ((leb→le 1 n own.0, leb→le n last_rule own.1), all.1)
+pub first_of_file : (reason : Reason) (b : Bool) (rules : List Rule) → T (of_file (reason when b ∷ rules)) → OfFile reason × T (of_file rules)
+first_of_file reason b rules t =
+    let all = and_yes (leb 1 (rule_number reason) && leb (rule_number reason) last_rule) (of_file rules) t in
+    let own = and_yes (leb 1 (rule_number reason)) (leb (rule_number reason) last_rule) all.0 in
+    ((leb→le 1 (rule_number reason) own.0, leb→le (rule_number reason) last_rule own.1), all.1)
 
 -- no rule of the list is broken
 abbrev pub Kept : List Rule → Type 0
 Kept [] = Unit {0}
-Kept (n when b ∷ rules) = (b ≡ false) × Kept rules
+Kept (reason when b ∷ rules) = (b ≡ false) × Kept rules
 
-pub all_kept : (rules : List Rule) → T (numbered rules) → first_broken rules ≡ 0 → Kept rules
-unfolding pick first_broken
-all_kept [] t e = tt
-all_kept (n when true ∷ rules) t e = absurd (omega (arith, e, first_numbered n true rules t))
-all_kept (n when false ∷ rules) t e = (refl, all_kept rules (first_numbered n false rules t).1 e)
+-- a reason is never the answer that no rule is broken, and no two of them are one answer
+pub no_reason : {C : Type 0} (reason : Reason) → ◌≡◌ {A = Result (Unit {0}) Reason} (Err reason) (Ok tt) → C
+no_reason reason e = absurd (true≢false (sym (ap is_ok e)))
 
--- rules that stand one after the other
-broken_first : (first rest : List Rule) → (first_broken first ≡ 0 → ⊥) → first_broken first ≡ first_broken (first ++ rest)
-unfolding pick first_broken
-broken_first [] rest some = absurd (some refl)
-broken_first (n when true ∷ first) rest some = refl
-broken_first (n when false ∷ first) rest some = broken_first first rest some
+abbrev reason_in : Reason → Result (Unit {0}) Reason → Reason
+reason_in other (Ok t) = other
+reason_in other (Err reason) = reason
 
-broken_rest : (first rest : List Rule) → T (numbered first) → first_broken first ≡ 0 → first_broken (first ++ rest) ≡ first_broken rest
+pub same_reason : (a b : Reason) → ◌≡◌ {A = Result (Unit {0}) Reason} (Err a) (Err b) → a ≡ b
+same_reason a b e = ap (reason_in a) e
+
+pub all_kept : (rules : List Rule) → first_broken rules ≡ Ok tt → Kept rules
 unfolding pick first_broken
-broken_rest [] rest t e = refl
-broken_rest (n when true ∷ first) rest t e = absurd (omega (arith, e, first_numbered n true first t))
-broken_rest (n when false ∷ first) rest t e = broken_rest first rest (first_numbered n false first t).1 e
+all_kept [] e = tt
+all_kept (reason when true ∷ rules) e = no_reason reason e
+all_kept (reason when false ∷ rules) e = (refl, all_kept rules e)
+
+-- rules that stand one after the other: the first that is broken, and where none of the first is broken those behind them decide
+pub stop : (first rest : List Rule) (reason : Reason) → Err reason ≡ first_broken first → Err reason ≡ first_broken (first ++ rest)
+unfolding pick first_broken
+stop [] rest reason e = no_reason reason e
+stop (other when true ∷ first) rest reason e = e
+stop (other when false ∷ first) rest reason e = stop first rest reason e
+
+pub pass : (first rest : List Rule) (r : Result (Unit {0}) Reason) → Ok tt ≡ first_broken first → r ≡ first_broken rest → r ≡ first_broken (first ++ rest)
+unfolding pick first_broken
+pass [] rest r z e = e
+pass (reason when true ∷ first) rest r z e = no_reason reason (sym z)
+pass (reason when false ∷ first) rest r z e = pass first rest r z e
 
 pub both_kept : (first rest : List Rule) → Kept (first ++ rest) → Kept first × Kept rest
 both_kept [] rest k = (tt, k)
-both_kept (n when b ∷ first) rest k =
+both_kept (reason when b ∷ first) rest k =
     let both = both_kept first rest k.1 in
     ((k.0, both.0), both.1)
 
-pub both_numbered : (first rest : List Rule) → T (numbered first) → T (numbered rest) → T (numbered (first ++ rest))
-both_numbered [] rest t u = u
-both_numbered (n when b ∷ first) rest t u =
-    let all = and_yes (leb 1 n && leb n last_rule) (numbered first) t in
-    yes_and (leb 1 n && leb n last_rule) (numbered (first ++ rest)) all.0 (both_numbered first rest all.1 u)
+pub both_of_file : (first rest : List Rule) → T (of_file first) → T (of_file rest) → T (of_file (first ++ rest))
+both_of_file [] rest t u = u
+both_of_file (reason when b ∷ first) rest t u =
+    let all = and_yes (leb 1 (rule_number reason) && leb (rule_number reason) last_rule) (of_file first) t in
+    yes_and (leb 1 (rule_number reason) && leb (rule_number reason) last_rule) (of_file (first ++ rest)) all.0 (both_of_file first rest all.1 u)
 
 -- what the first broken rule decides, and what none decides
-module _ {A : Type 0} (refuse : ℕ → A) (ok : A) where
-  pub by_broken : (rules : List Rule) → (first_broken rules ≡ 0 → ⊥) → judged_by refuse rules ok ≡ refuse (first_broken rules)
+module _ {A : Type 0} (refuse : Reason → A) (ok : A) where
+  pub by_broken : (rules : List Rule) (reason : Reason) → Err reason ≡ first_broken rules → judged_by refuse rules ok ≡ refuse reason
   unfolding pick first_broken
-  by_broken [] some = absurd (some refl)
-  by_broken (n when true ∷ rules) some = refl
-  by_broken (n when false ∷ rules) some = by_broken rules some
+  by_broken [] reason e = no_reason reason e
+  by_broken (other when true ∷ rules) reason e = ap refuse (sym (same_reason reason other e))
+  by_broken (other when false ∷ rules) reason e = by_broken rules reason e
 
-  pub by_none : (rules : List Rule) → T (numbered rules) → first_broken rules ≡ 0 → judged_by refuse rules ok ≡ ok
+  pub by_none : (rules : List Rule) → first_broken rules ≡ Ok tt → judged_by refuse rules ok ≡ ok
   unfolding pick first_broken
-  by_none [] t e = refl
-  by_none (n when true ∷ rules) t e = absurd (omega (arith, e, first_numbered n true rules t))
-  by_none (n when false ∷ rules) t e = by_none rules (first_numbered n false rules t).1 e
-
-module _ (first rest : List Rule) (n : ℕ) (told-first : n ≡ first_broken first) where
-  -- a call answered the number of the first rule that is broken: it is not 0, and is that of all the rules
-  pub stop : (n ≡ 0 → ⊥) → n ≡ first_broken (first ++ rest)
-  stop some = told-first ∙ broken_first first rest (λ e. some (told-first ∙ e))
-
-  -- it is 0, and the rules behind decide
-  pub pass : (r : ℕ) → T (numbered first) → n ≡ 0 → r ≡ first_broken rest → r ≡ first_broken (first ++ rest)
-  pass r t z e = e ∙ sym (broken_rest first rest t (sym told-first ∙ z))
+  by_none [] e = refl
+  by_none (reason when true ∷ rules) e = no_reason reason e
+  by_none (reason when false ∷ rules) e = by_none rules e

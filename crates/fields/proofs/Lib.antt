@@ -1,2 +1,3 @@
+pub mod AnyFrom
 pub mod Deciding
 pub mod Determined

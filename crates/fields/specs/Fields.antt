@@ -34,6 +34,16 @@ kind_of tag =
     (pick (eqb tag 5) EndField
     (pick (ltb tag 128) RefusedTag SkippedField)))))
 
+-- a known kind has its tag, a skipped one the first tag that is skipped
+abbrev pub tag_of : Kind → ℕ
+tag_of RefusedTag = 0
+tag_of LabelField = 1
+tag_of ModeField = 2
+tag_of RowField = 3
+tag_of TaskField = 4
+tag_of EndField = 5
+tag_of SkippedField = 128
+
 abbrev pub is_refused : Kind → Bool
 is_refused RefusedTag = true
 is_refused LabelField = false

@@ -1,3 +1,4 @@
+pub mod Refusals
 pub mod Deciding
 pub mod Limits
 pub mod Fields

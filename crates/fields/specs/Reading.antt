@@ -1,10 +1,12 @@
 -- What stands at a place of the file: numbers, the values of a field's content, and a field or a refusal.
-use Rattle.std.specs.Prelude.{ℕ, ◌+◌, ◌*◌, List, [], ◌∷◌, length, get_or, ltb, eqb}
+use Rattle.std.specs.Prelude.{ℕ, ◌+◌, ◌*◌, List, [], ◌∷◌, length, get_or, ltb, eqb, Result, Ok}
 use Rattle.fields.specs.Deciding.{◌when◌, pick, judged_by}
 use Rattle.fields.specs.Fields.{kind_of, is_refused}
 use Rattle.fields.specs.Limits.{mode_size, head_size, task_size}
-use Rattle.fields.specs.declared.reader.Step.{Step}
-use Rattle.fields.specs.declared.reader.Step.TheVariants.{Field, Refusal}
+use Rattle.fields.specs.Refusals.{refused}
+use Rattle.fields.specs.declared.reader.Field.{Field}
+use Rattle.fields.specs.declared.refusal.Reason.TheVariants.{CutOff, UnknownTag}
+use Rattle.fields.specs.declared.refusal.Refusal.{Refusal}
 use Rattle.fields.specs.declared.units.Rpm.{Rpm}
 use Rattle.fields.specs.declared.units.Ticks.{Ticks}
 use Rattle.fields.specs.declared.values.Mode.{Mode}
@@ -61,11 +63,17 @@ task_at bytes start size =
     }
 
 -- the field at a place: rule 1 for a header that is cut off, then rule 2, then rule 1 for content that is cut off
-unfoldable pub field_at : List ℕ → ℕ → Step
+unfoldable pub field_at : List ℕ → ℕ → Result Field Refusal
 field_at bytes at =
-    judged_by (λ n. Refusal n at)
-    (1 when (ltb (length bytes) (at + 3))
-    ∷ 2 when (is_refused (kind_of (get_or bytes at 0)))
-    ∷ 1 when (ltb (length bytes) (at + 3 + word_at bytes (at + 1)))
+    judged_by (λ reason. refused reason at)
+    (CutOff when (ltb (length bytes) (at + 3))
+    ∷ UnknownTag when (is_refused (kind_of (get_or bytes at 0)))
+    ∷ CutOff when (ltb (length bytes) (at + 3 + word_at bytes (at + 1)))
     ∷ [])
-    (Field (kind_of (get_or bytes at 0)) (at + 3) (word_at bytes (at + 1)) (at + 3 + word_at bytes (at + 1)))
+    (Ok
+    (record {
+      kind = kind_of (get_or bytes at 0);
+      start = at + 3;
+      size = word_at bytes (at + 1);
+      next = at + 3 + word_at bytes (at + 1);
+    }))

@@ -1,6 +1,6 @@
 // The field table, and what kind of field a tag says.
 ghost use Rattle.std.specs.Prelude.{◌≡◌};
-ghost use Rattle.fields.specs.Fields.{kind_of, is_refused, is_end, no_line, line_of};
+ghost use Rattle.fields.specs.Fields.{kind_of, tag_of, line_of};
 
 use crate::values::Sheet;
 
@@ -15,8 +15,9 @@ pub struct Line {
     pub numbers: bool,
 }
 
-#[derive(Clone, Copy)]
+#[derive(Clone, Copy, Debug, PartialEq, Eq)]
 pub enum Kind {
+    // What rule 2 refuses is a kind too, since `kind_of` in specs/ has a kind for every tag.
     RefusedTag,
     LabelField,
     ModeField,
@@ -24,6 +25,17 @@ pub enum Kind {
     TaskField,
     EndField,
     SkippedField,
+}
+
+impl Line {
+    // A line that allows nothing.
+    const NONE: Line = Line {
+        shortest: 0,
+        longest: 0,
+        most: 0,
+        required: false,
+        numbers: false,
+    };
 }
 
 // How many kinds of field are known; their tags are the numbers from 1 on.
@@ -72,68 +84,42 @@ const FIELDS: [Line; KINDS] = [
 pub fn line_of(tag: usize) -> Line
     ensures { result ≡ line_of tag }
 {
-    if tag == 0 {
-        return no_line();
-    }
-    if KINDS < tag {
-        return no_line();
-    }
-    FIELDS[tag - 1]
-}
-
-fn no_line() -> Line
-    ensures { result ≡ no_line }
-{
-    Line {
-        shortest: 0,
-        longest: 0,
-        most: 0,
-        required: false,
-        numbers: false,
+    match tag {
+        1..=KINDS => FIELDS[tag - 1],
+        _ => Line::NONE,
     }
 }
 
 // The kind of field that a tag byte begins; rule 2 refuses what begins none.
-pub fn kind_of(tag: u8) -> Kind
-    ensures { result ≡ kind_of tag }
-{
-    match tag {
-        1 => Kind::LabelField,
-        2 => Kind::ModeField,
-        3 => Kind::RowField,
-        4 => Kind::TaskField,
-        5 => Kind::EndField,
-        0 | 6..=127 => Kind::RefusedTag,
-        128..=255 => Kind::SkippedField,
+impl From<u8> for Kind {
+    ghost from_gives = { λ tag kind. kind ≡ kind_of tag };
+
+    fn from(tag: u8) -> Kind {
+        match tag {
+            1 => Kind::LabelField,
+            2 => Kind::ModeField,
+            3 => Kind::RowField,
+            4 => Kind::TaskField,
+            5 => Kind::EndField,
+            0 | 6..=127 => Kind::RefusedTag,
+            128..=255 => Kind::SkippedField,
+        }
     }
 }
 
-// Whether rule 2 refuses the tag.
-pub(crate) fn refused_tag(tag: u8) -> bool
-    ensures { result ≡ is_refused (kind_of tag) }
-{
-    let kind = kind_of(tag);
-    match kind {
-        Kind::RefusedTag => true,
-        Kind::LabelField => false,
-        Kind::ModeField => false,
-        Kind::RowField => false,
-        Kind::TaskField => false,
-        Kind::EndField => false,
-        Kind::SkippedField => false,
-    }
-}
+// A known kind has its tag, a skipped one the first tag that is skipped, and the refused one 0, the first tag that rule 2 refuses.
+impl From<Kind> for u8 {
+    ghost from_gives = { λ kind tag. tag ≡ tag_of kind };
 
-pub fn is_end(kind: Kind) -> bool
-    ensures { result ≡ is_end kind }
-{
-    match kind {
-        Kind::RefusedTag => false,
-        Kind::LabelField => false,
-        Kind::ModeField => false,
-        Kind::RowField => false,
-        Kind::TaskField => false,
-        Kind::EndField => true,
-        Kind::SkippedField => false,
+    fn from(kind: Kind) -> u8 {
+        match kind {
+            Kind::RefusedTag => 0,
+            Kind::LabelField => 1,
+            Kind::ModeField => 2,
+            Kind::RowField => 3,
+            Kind::TaskField => 4,
+            Kind::EndField => 5,
+            Kind::SkippedField => 128,
+        }
     }
 }

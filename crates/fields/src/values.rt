@@ -25,7 +25,7 @@ pub struct Mode {
 }
 
 impl Mode {
-    // A mode of zeros, which an array of modes holds past its count; so do those of rows and of tasks.
+    // A mode of zeros. An array of modes holds it past the modes of the sheet, as those of rows and of fixed tasks hold their own `NONE`.
     pub const NONE: Mode = Mode {
         boundary: Rpm(0),
         length: Ticks(0),
@@ -36,8 +36,7 @@ impl Mode {
     pub fn short_size(self) -> usize
         ensures { result ≡ short_size self }
     {
-        let fallback = self.fallback;
-        if fallback.same(self.boundary) {
+        if self.fallback == self.boundary {
             return Sheet::MODE;
         }
         Sheet::MODE + Sheet::FALLBACK
@@ -83,8 +82,7 @@ impl Task {
     pub fn short_size(self) -> usize
         ensures { result ≡ short_task_size self }
     {
-        let jitter = self.jitter;
-        if jitter.is_zero() {
+        if self.jitter == Ticks(0) {
             return Sheet::TASK;
         }
         Sheet::TASK + Sheet::JITTER
@@ -94,6 +92,7 @@ impl Task {
 // What the rules know of the fields before: the last known tag, how many of each kind, the last boundary with its fall-back, and the last speed.
 #[derive(Clone, Copy)]
 pub struct Tally {
+    // A tag and no kind: rule 3 compares tags as they stand in the file (`out_of_order` of the crate `rules`).
     pub last: usize,
     pub modes: usize,
     pub rows: usize,

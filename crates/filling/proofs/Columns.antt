@@ -1,9 +1,9 @@
 -- A column of cells that is put into its lines, and a block of lines that is filled column after column.
-use mathlib.Core.Path.{◌≡◌, refl, sym, ap, ◌∙◌, subst}
+use mathlib.Core.Path.{◌≡◌, sym, ap, ◌∙◌, subst}
 use mathlib.Core.Logic.{⊎_elim}
 use mathlib.Core.List.{List}
 use Prim.Native.Nat.{ℕ, ◌+◌, ◌-◌, ◌*◌, ◌/◌, ◌%◌, ◌≤◌, ◌<◌}
-use native.Mathlib.Nat.{eq-or-lt_of_le}
+use native.Mathlib.Nat.{eq-or-lt_of_le, mul-le-mul}
 use native.Mathlib.Omega.{arith}
 use lib.Arith.{digits_lt, digits_mod, digits_div}
 use lib.ListN.{length, get_or, set, length-set}
@@ -14,13 +14,8 @@ use Rattle.meaning.proofs.Tests.{lt_or}
 use Rattle.tables.specs.Lines.{HasLines}
 use Rattle.blocks.specs.Blocks.{block_size}
 use Rattle.filling.specs.Reaching.{Put}
-use Rattle.filling.proofs.Joining.{line_in}
 
 module _ (n line k : ℕ) (column old : List ℕ) where
-  -- before the first store
-  pub put_none : Put n line k column old old 0
-  put_none = record { same_length = refl; here = λ i l. absurd (omega arith); other = λ place l. refl }
-
   -- one cell more
   pub put_more : (cells : List ℕ) (i : ℕ) → k < n → (line + i) * n + k < length cells → Put n line k column old cells i
       → Put n line k column old (set cells ((line + i) * n + k) (get_or column i 0)) (i + 1)
@@ -43,19 +38,19 @@ module _ (n line k : ℕ) (column old : List ℕ) where
             ∙ put.other place (λ m l. none m (omega arith));
       }
 
+-- a place before the end of some lines is of one of them
+line_in : (n line lines k : ℕ) → line * n + k < n * lines → line < lines
+line_in n line lines k h =
+    ⊎_elim (λ l. l) (λ l. absurd (omega (arith, mul-le-mul {n₁ = n} {m₁ = lines} {n₂ = n} {m₂ = line} (omega arith) l))) (lt_or line lines)
+
 -- the lines before are right, and in the block of lines from there on the rows below k; what is behind the block has not changed
 pub record Blocked (n : ℕ) (Right : ℕ → ℕ → ℕ → Type 0) (old cells : List ℕ) (line k : ℕ) : Type 0 where
-  pub most : k ≤ n
   pub same_length : length cells ≡ length old
   pub before : HasLines n Right cells line
   pub within : (i j : ℕ) → i < block_size → j < k → Right (line + i) j (cell_at n cells (line + i) j)
   pub kept : (place : ℕ) → (line + block_size) * n ≤ place → get_or cells place 0 ≡ get_or old place 0
 
 module _ (n : ℕ) (Right : ℕ → ℕ → ℕ → Type 0) (old : List ℕ) (line : ℕ) where
-  -- before the first row
-  pub blocked_start : HasLines n Right old line → Blocked n Right old old line 0
-  blocked_start has = record { most = omega arith; same_length = refl; before = has; within = λ i j a b. absurd (omega arith); kept = λ place a. refl }
-
   module _ (cells : List ℕ) (k : ℕ) (blocked : Blocked n Right old cells line k) where
     -- behind the last row the block is filled
     pub blocked_done : k ≡ n → Filled n Right old cells (n * (line + block_size))
@@ -83,7 +78,6 @@ module _ (n : ℕ) (Right : ℕ → ℕ → ℕ → Type 0) (old : List ℕ) (li
       -- one row more
       pub blocked_more : Blocked n Right old new line (k + 1)
       blocked_more = record {
-        most = omega arith;
         same_length = put.same_length ∙ blocked.same_length;
         before = record {
           room = omega (arith, put.same_length, blocked.before.room);

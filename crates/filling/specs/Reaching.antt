@@ -2,21 +2,14 @@
 use Rattle.std.specs.Prelude.{ℕ, ◌+◌, ◌*◌, ◌≤◌, ◌<◌, ◌≡◌, List, length, get_or}
 use Rattle.beginning.specs.Beginning.{graph}
 use Rattle.blocks.specs.Blocks.{block_size}
-use Rattle.tables.specs.declared.Table.{Table}
-use Rattle.tables.specs.declared.Table.TheVariants.{Interval, Amount}
 
--- a cell by interval reads no line nearer than the row's deadline, since no gap is shorter; a cell by amount reads the line that is the job length before it
-abbrev pub reach_of : Table → ℕ → ℕ → ℕ
-reach_of Interval deadline work = deadline
-reach_of Amount deadline work = work
-
--- for a row of the sheet
-abbrev pub row_reach : Table → List ℕ → ℕ → ℕ
-row_reach table bytes k = reach_of table ((graph bytes).deadline k) ((graph bytes).length k)
+-- for a row of the sheet, by a table's `reach` of its deadline and its job length
+abbrev pub row_reach : (ℕ → ℕ → ℕ) → List ℕ → ℕ → ℕ
+row_reach reach bytes k = reach ((graph bytes).deadline k) ((graph bytes).length k)
 
 -- lines that may be filled in blocks: where there are some, no row reaches back by less than a block
-abbrev pub MayBlock : Table → List ℕ → ℕ → ℕ → Type 0
-MayBlock table bytes n lines = 0 < lines → (k : ℕ) → k < n → block_size ≤ row_reach table bytes k
+abbrev pub MayBlock : (ℕ → ℕ → ℕ) → List ℕ → ℕ → ℕ → Type 0
+MayBlock reach bytes n lines = 0 < lines → (k : ℕ) → k < n → block_size ≤ row_reach reach bytes k
 
 -- the first `count` cells of a column stand in row k from a line on, one a line, and nothing else has changed
 pub record Put (n line k : ℕ) (column old new : List ℕ) (count : ℕ) : Type 0 where

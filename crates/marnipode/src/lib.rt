@@ -10,22 +10,17 @@ ghost use Rattle.written.specs.Values.{values_from};
 ghost use Rattle.writer_numbers.specs.Flat.{flat_mode, flat_row, flat_task};
 ghost use Rattle.marnipode.specs.Exported.{DemandExport, MarginExport, ShortestExport, VerdictByIntervalExport, VerdictByAmountExport, ExplainExport, WriteExport};
 
-use explain_numbers::{ExplainForC, explain_numbers};
+use explain_numbers::ExplainForC;
 use fields::values::Sheet;
-use numbers::{
-    DemandForC, FieldForC, JudgeForC, LabelForC, MarginForC, ShortestForC, VerdictForC,
-    demand_numbers, field_numbers, judge_numbers, label_numbers, margin_numbers, shortest_numbers,
-    verdict_numbers,
-};
-use writer_numbers::{
-    ModeForC, RowForC, TaskForC, WriteForC, mode_numbers, row_numbers, task_numbers, write_numbers,
-};
+use numbers::{DemandForC, FieldForC, JudgeForC, LabelForC, MarginForC, ShortestForC, VerdictForC};
+use writer_numbers::{ModeForC, RowForC, TaskForC, WriteForC};
+use written::{Columns, ModeColumns, RowColumns, TaskColumns};
 
 pub fn marnipode_judge(bytes: &[u8]) -> JudgeForC
     ensures { result ≡ flat_judged (judged bytes.now) }
 {
     let mut places = [0usize; Sheet::ROWS];
-    judge_numbers(sheet::outline_of(bytes, &mut places))
+    JudgeForC::from(sheet::outline_of(bytes, &mut places))
 }
 
 // A returned part of the bytes cannot be handed to C, so the label is its place and its size.
@@ -33,13 +28,13 @@ pub fn marnipode_label(bytes: &[u8]) -> LabelForC
     ensures { result ≡ flat_label (judged bytes.now) }
 {
     let mut places = [0usize; Sheet::ROWS];
-    label_numbers(sheet::outline_of(bytes, &mut places))
+    LabelForC::from(sheet::outline_of(bytes, &mut places))
 }
 
 pub fn marnipode_field_at(bytes: &[u8], at: usize) -> FieldForC
     ensures { result ≡ flat_step (field_at bytes.now at) }
 {
-    field_numbers(fields::reader::field_at(bytes, at))
+    FieldForC::from(fields::reader::field_at(bytes, at))
 }
 
 pub fn marnipode_demand(
@@ -50,31 +45,31 @@ pub fn marnipode_demand(
 ) -> DemandForC
     ensures { DemandExport bytes.now interval cells.old witness.old result cells.new witness.new }
 {
-    demand_numbers(desk::demand(bytes, interval, cells, witness))
+    DemandForC::from(desk::demand(bytes, interval, cells, witness))
 }
 
 pub fn marnipode_margin(bytes: &[u8], interval: u64, cells: &mut [u32]) -> MarginForC
     ensures { MarginExport bytes.now interval cells.old result cells.new }
 {
-    margin_numbers(desk::margin(bytes, interval, cells))
+    MarginForC::from(desk::margin(bytes, interval, cells))
 }
 
 pub fn marnipode_shortest(bytes: &[u8], amount: u64, cells: &mut [u32]) -> ShortestForC
     ensures { ShortestExport bytes.now amount cells.old result cells.new }
 {
-    shortest_numbers(desk::shortest(bytes, amount, cells))
+    ShortestForC::from(desk::shortest(bytes, amount, cells))
 }
 
 pub fn marnipode_verdict_by_interval(bytes: &[u8], horizon: u64, cells: &mut [u32]) -> VerdictForC
     ensures { VerdictByIntervalExport bytes.now horizon cells.old result cells.new }
 {
-    verdict_numbers(desk::verdict_by_interval(bytes, horizon, cells))
+    VerdictForC::from(desk::verdict_by_interval(bytes, horizon, cells))
 }
 
 pub fn marnipode_verdict_by_amount(bytes: &[u8], horizon: u64, cells: &mut [u32]) -> VerdictForC
     ensures { VerdictByAmountExport bytes.now horizon cells.old result cells.new }
 {
-    verdict_numbers(desk::verdict_by_amount(bytes, horizon, cells))
+    VerdictForC::from(desk::verdict_by_amount(bytes, horizon, cells))
 }
 
 pub fn marnipode_explain(
@@ -85,7 +80,7 @@ pub fn marnipode_explain(
 ) -> ExplainForC
     ensures { ExplainExport bytes.now horizon cells.old witness.old result cells.new witness.new }
 {
-    explain_numbers(explain::explain(bytes, horizon, cells, witness))
+    ExplainForC::from(explain::explain(bytes, horizon, cells, witness))
 }
 
 // The columns come one by one; the header has a struct of them, and a function that hands them on.
@@ -106,33 +101,42 @@ pub fn marnipode_write_columns(
 ) -> WriteForC
     ensures { WriteExport (values_from label.now boundaries.now lengths.now fallbacks.now speeds.now deadlines.now sets.now gaps.now task_lengths.now task_periods.now task_deadlines.now task_jitters.now) output.old result output.new }
 {
-    write_numbers(writer::write(
-        label,
+    let modes = ModeColumns {
         boundaries,
         lengths,
         fallbacks,
+    };
+    let rows = RowColumns {
         speeds,
         deadlines,
         sets,
         gaps,
-        task_lengths,
-        task_periods,
-        task_deadlines,
-        task_jitters,
-        output,
-    ))
+    };
+    let tasks = TaskColumns {
+        lengths: task_lengths,
+        periods: task_periods,
+        deadlines: task_deadlines,
+        jitters: task_jitters,
+    };
+    let columns = Columns {
+        label,
+        modes,
+        rows,
+        tasks,
+    };
+    WriteForC::from(writer::write(columns, output))
 }
 
 pub fn marnipode_mode(bytes: &[u8], number: usize) -> ModeForC
     ensures { result ≡ flat_mode (mode_numbered bytes.now number) }
 {
-    mode_numbers(contents::mode_numbered(bytes, number))
+    ModeForC::from(contents::mode_numbered(bytes, number))
 }
 
 pub fn marnipode_row(bytes: &[u8], number: usize) -> RowForC
     ensures { result ≡ flat_row (row_numbered bytes.now number) }
 {
-    row_numbers(contents::row_numbered(bytes, number))
+    RowForC::from(contents::row_numbered(bytes, number))
 }
 
 pub fn marnipode_gap(bytes: &[u8], from: usize, to: usize) -> u16
@@ -145,5 +149,5 @@ pub fn marnipode_gap(bytes: &[u8], from: usize, to: usize) -> u16
 pub fn marnipode_task(bytes: &[u8], number: usize) -> TaskForC
     ensures { result ≡ flat_task (task_numbered bytes.now number) }
 {
-    task_numbers(contents::task_numbered(bytes, number))
+    TaskForC::from(contents::task_numbered(bytes, number))
 }

@@ -12,17 +12,12 @@ use fields::values::{Mode, Sheet};
 pub fn job_length(modes: [Mode; Sheet::MODES], count: usize, speed: Rpm) -> Ticks
     ensures { result ≡ job_length (take count modes) speed }
 {
-    let mut number: usize = 0;
-    while number < Sheet::MODES {
-        if count <= number {
-            return Ticks(0);
-        }
+    for number in 0..count.min(Sheet::MODES) {
         let mode = modes[number];
-        if speed.at_most(mode.boundary) {
+        if speed <= mode.boundary {
             let next = length_of(modes, count, number + 1);
             return length_in(mode, next, speed);
         }
-        number += 1;
     }
     Ticks(0)
 }
@@ -31,26 +26,18 @@ pub fn job_length(modes: [Mode; Sheet::MODES], count: usize, speed: Rpm) -> Tick
 fn length_of(modes: [Mode; Sheet::MODES], count: usize, number: usize) -> Ticks
     ensures { result ≡ first_length (drop number (take count modes)) }
 {
-    if count <= number {
+    if count.min(Sheet::MODES) <= number {
         return Ticks(0);
     }
-    if Sheet::MODES <= number {
-        return Ticks(0);
-    }
-    let mode = modes[number];
-    mode.length
+    modes[number].length
 }
 
 // The length of a mode that reaches the speed: above its fall-back the next mode's where that is longer.
 fn length_in(mode: Mode, next: Ticks, speed: Rpm) -> Ticks
     ensures { result ≡ length_in mode next speed }
 {
-    let length = mode.length;
-    if speed.at_most(mode.fallback) {
-        return length;
+    if speed <= mode.fallback {
+        return mode.length;
     }
-    if length.shorter(next) {
-        return next;
-    }
-    length
+    mode.length.max(next)
 }

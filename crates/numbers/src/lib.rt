@@ -2,14 +2,14 @@
 #![tactic(auto)]
 
 ghost use Rattle.std.specs.Prelude.{◌≡◌};
-ghost use Rattle.numbers.specs.Flat.{kind_number, flat_outline, flat_heading, flat_step, flat_demand, flat_margin, flat_shortest, flat_verdict};
+ghost use Rattle.numbers.specs.Flat.{flat_outline, flat_heading, flat_step, flat_demand, flat_margin, flat_shortest, flat_verdict};
 
-use desk::{DemandAnswer, MarginAnswer, ShortestAnswer, VerdictAnswer};
-use fields::reader::Step;
-use fields::table::Kind;
-use sheet::{Answer, Outline};
+use desk::Attained;
+use fields::reader::Field;
+use fields::refusal::Refusal;
+use sheet::Head;
 
-// In each of them `number` is 0, or the refusal's number with its place, and then all else is 0.
+// C has no `Result`. In each of them but that of a label `number` is 0, or the refusal's number with its place, and then all else is 0.
 #[repr(C)]
 #[derive(Clone, Copy)]
 pub struct JudgeForC {
@@ -71,150 +71,142 @@ pub struct VerdictForC {
     pub overrun: u64,
 }
 
-pub fn judge_numbers(outline: Outline) -> JudgeForC
-    ensures { result ≡ flat_outline outline }
-{
-    let answer = outline.answer;
-    let head = outline.head;
-    let tally = head.tally;
-    let mut judge = JudgeForC {
-        number: 0,
-        place: 0,
-        modes: tally.modes,
-        rows: tally.rows,
-        tasks: tally.tasks,
-    };
-    if let Answer::Refused { number, place } = answer {
-        judge.number = number;
-        judge.place = place;
-    }
-    judge
-}
+impl From<Result<Head, Refusal>> for JudgeForC {
+    ghost from_gives = { λ answer numbers. numbers ≡ flat_outline answer };
 
-pub fn label_numbers(outline: Outline) -> LabelForC
-    ensures { result ≡ flat_heading outline }
-{
-    let head = outline.head;
-    let label = head.label;
-    LabelForC {
-        start: label.start,
-        size: label.size,
-    }
-}
-
-pub fn field_numbers(step: Step) -> FieldForC
-    ensures { result ≡ flat_step step }
-{
-    match step {
-        Step::Field {
-            kind,
-            start,
-            size,
-            next,
-        } => FieldForC {
-            number: 0,
-            place: 0,
-            kind: kind_number(kind),
-            start: start,
-            size: size,
-            next: next,
-        },
-        Step::Refusal { number, place } => FieldForC {
-            number: number,
-            place: place,
-            kind: 0,
-            start: 0,
-            size: 0,
-            next: 0,
-        },
-    }
-}
-
-// A known kind has its tag, a skipped one the first tag that is skipped.
-fn kind_number(kind: Kind) -> u8
-    ensures { result ≡ kind_number kind }
-{
-    match kind {
-        Kind::RefusedTag => 0,
-        Kind::LabelField => 1,
-        Kind::ModeField => 2,
-        Kind::RowField => 3,
-        Kind::TaskField => 4,
-        Kind::EndField => 5,
-        Kind::SkippedField => 128,
-    }
-}
-
-pub fn demand_numbers(answer: DemandAnswer) -> DemandForC
-    ensures { result ≡ flat_demand answer }
-{
-    match answer {
-        DemandAnswer::Found { amount, count } => DemandForC {
-            number: 0,
-            place: 0,
-            amount: amount,
-            count: count,
-        },
-        DemandAnswer::Refused { number, place } => DemandForC {
-            number: number,
-            place: place,
-            amount: 0,
-            count: 0,
-        },
-    }
-}
-
-pub fn margin_numbers(answer: MarginAnswer) -> MarginForC
-    ensures { result ≡ flat_margin answer }
-{
-    match answer {
-        MarginAnswer::Found { margin } => MarginForC {
-            number: 0,
-            place: 0,
-            margin: margin,
-        },
-        MarginAnswer::Refused { number, place } => MarginForC {
-            number: number,
-            place: place,
-            margin: 0,
-        },
-    }
-}
-
-pub fn shortest_numbers(answer: ShortestAnswer) -> ShortestForC
-    ensures { result ≡ flat_shortest answer }
-{
-    match answer {
-        ShortestAnswer::Found { time } => ShortestForC {
-            number: 0,
-            place: 0,
-            time: time,
-        },
-        ShortestAnswer::Refused { number, place } => ShortestForC {
-            number: number,
-            place: place,
-            time: 0,
-        },
-    }
-}
-
-pub fn verdict_numbers(answer: VerdictAnswer) -> VerdictForC
-    ensures { result ≡ flat_verdict answer }
-{
-    let mut verdict = VerdictForC {
-        number: 0,
-        place: 0,
-        overrun: 0,
-    };
-    match answer {
-        VerdictAnswer::Holds => {}
-        VerdictAnswer::Overrun { interval } => {
-            verdict.overrun = interval;
-        }
-        VerdictAnswer::Refused { number, place } => {
-            verdict.number = number;
-            verdict.place = place;
+    fn from(answer: Result<Head, Refusal>) -> JudgeForC {
+        match answer {
+            Ok(Head { tally, .. }) => JudgeForC {
+                number: 0,
+                place: 0,
+                modes: tally.modes,
+                rows: tally.rows,
+                tasks: tally.tasks,
+            },
+            Err(refusal) => JudgeForC {
+                number: refusal.number(),
+                place: refusal.place,
+                modes: 0,
+                rows: 0,
+                tasks: 0,
+            },
         }
     }
-    verdict
+}
+
+impl From<Result<Head, Refusal>> for LabelForC {
+    ghost from_gives = { λ answer numbers. numbers ≡ flat_heading answer };
+
+    fn from(answer: Result<Head, Refusal>) -> LabelForC {
+        match answer {
+            Ok(Head { label, .. }) => LabelForC {
+                start: label.start,
+                size: label.size,
+            },
+            Err(_) => LabelForC { start: 0, size: 0 },
+        }
+    }
+}
+
+impl From<Result<Field, Refusal>> for FieldForC {
+    ghost from_gives = { λ answer numbers. numbers ≡ flat_step answer };
+
+    fn from(answer: Result<Field, Refusal>) -> FieldForC {
+        match answer {
+            Ok(field) => FieldForC {
+                number: 0,
+                place: 0,
+                kind: u8::from(field.kind),
+                start: field.start,
+                size: field.size,
+                next: field.next,
+            },
+            Err(refusal) => FieldForC {
+                number: refusal.number(),
+                place: refusal.place,
+                kind: 0,
+                start: 0,
+                size: 0,
+                next: 0,
+            },
+        }
+    }
+}
+
+impl From<Result<Attained, Refusal>> for DemandForC {
+    ghost from_gives = { λ answer numbers. numbers ≡ flat_demand answer };
+
+    fn from(answer: Result<Attained, Refusal>) -> DemandForC {
+        match answer {
+            Ok(Attained { amount, count }) => DemandForC {
+                number: 0,
+                place: 0,
+                amount,
+                count,
+            },
+            Err(refusal) => DemandForC {
+                number: refusal.number(),
+                place: refusal.place,
+                amount: 0,
+                count: 0,
+            },
+        }
+    }
+}
+
+impl From<Result<i64, Refusal>> for MarginForC {
+    ghost from_gives = { λ answer numbers. numbers ≡ flat_margin answer };
+
+    fn from(answer: Result<i64, Refusal>) -> MarginForC {
+        match answer {
+            Ok(margin) => MarginForC {
+                number: 0,
+                place: 0,
+                margin,
+            },
+            Err(refusal) => MarginForC {
+                number: refusal.number(),
+                place: refusal.place,
+                margin: 0,
+            },
+        }
+    }
+}
+
+impl From<Result<u32, Refusal>> for ShortestForC {
+    ghost from_gives = { λ answer numbers. numbers ≡ flat_shortest answer };
+
+    fn from(answer: Result<u32, Refusal>) -> ShortestForC {
+        match answer {
+            Ok(time) => ShortestForC {
+                number: 0,
+                place: 0,
+                time,
+            },
+            Err(refusal) => ShortestForC {
+                number: refusal.number(),
+                place: refusal.place,
+                time: 0,
+            },
+        }
+    }
+}
+
+impl From<Result<Option<u64>, Refusal>> for VerdictForC {
+    ghost from_gives = { λ answer numbers. numbers ≡ flat_verdict answer };
+
+    fn from(answer: Result<Option<u64>, Refusal>) -> VerdictForC {
+        match answer {
+            Ok(overrun) => VerdictForC {
+                number: 0,
+                place: 0,
+                overrun: overrun.unwrap_or(0),
+            },
+            Err(refusal) => VerdictForC {
+                number: refusal.number(),
+                place: refusal.place,
+                overrun: 0,
+            },
+        }
+    }
 }

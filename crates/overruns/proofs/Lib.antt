@@ -1,3 +1,3 @@
-pub mod Releases
 pub mod ProperTasks
+pub mod Releases
 pub mod Sweeping

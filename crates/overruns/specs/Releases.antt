@@ -1,12 +1,11 @@
 -- Fixed demand as the code lets it grow from interval to interval: what falls due at an interval, and when each task's next job does.
-use Rattle.std.specs.Prelude.{◌≡◌, cond, List, ℕ, zero, suc, ◌+◌, ◌-◌, ◌≤◌, ◌<◌, eqb, length, get_or, take}
+use Rattle.std.specs.Prelude.{◌≡◌, cond, List, ℕ, zero, suc, ◌+◌, ◌-◌, ◌≤◌, ◌<◌, eqb, get_or, take}
 use Rattle.meaning.specs.Fixed as fixed
 use Rattle.fields.specs.Limits.{task_limit}
 use Rattle.sheet.specs.Meaning.{each_task}
 use Rattle.sheet.specs.Proper.{ProperTask}
 use Rattle.fields.specs.Values.{no_task}
 use Rattle.fields.specs.declared.values.Task.{Task}
-use Rattle.overruns.specs.declared.tasks.Times.{Times}
 
 -- the first tasks of an array, as many as are counted, each as four numbers
 abbrev pub counted_tasks : List Task → ℕ → List fixed.Task
@@ -18,27 +17,23 @@ pub record ProperTasks (tasks : List Task) (count : ℕ) : Type 0 where
   pub each : (k : ℕ) → k < count → ProperTask (get_or tasks k no_task)
 
 -- what falls due at t: the lengths of those of the first tasks whose next job does
-unfoldable pub work_due : List ℕ → List ℕ → ℕ → ℕ → ℕ
-work_due lengths dues t zero = 0
-work_due lengths dues t (suc i) = work_due lengths dues t i + cond (eqb (get_or dues i 0) t) (get_or lengths i 0) 0
+unfoldable pub work_due : List Task → List ℕ → ℕ → ℕ → ℕ
+work_due tasks dues t zero = 0
+work_due tasks dues t (suc i) = work_due tasks dues t i + cond (eqb (get_or dues i 0) t) (get_or tasks i no_task).length.0 0
 
 -- when the job after that falls due: a period later where it is the one at t
-unfoldable pub due_after : List ℕ → List ℕ → ℕ → ℕ → ℕ
-due_after periods dues t i = cond (eqb (get_or dues i 0) t) (t + get_or periods i 0) (get_or dues i 0)
+unfoldable pub due_after : List Task → List ℕ → ℕ → ℕ → ℕ
+due_after tasks dues t i = cond (eqb (get_or dues i 0) t) (t + (get_or tasks i no_task).period.0) (get_or dues i 0)
 
 -- the step to t: what falls due there, and the next jobs of the first tasks after it
-pub record Advanced (lengths periods old new : List ℕ) (count t work : ℕ) : Type 0 where
-  pub due : work ≡ work_due lengths old t count
-  pub next : (i : ℕ) → i < count → get_or new i 0 ≡ due_after periods old t i
-  pub same_length : length new ≡ length old
+pub record Advanced (tasks : List Task) (count : ℕ) (old new : List ℕ) (t work : ℕ) : Type 0 where
+  pub due : work ≡ work_due tasks old t count
+  pub next : (i : ℕ) → i < count → get_or new i 0 ≡ due_after tasks old t i
 
 -- when a task's first job falls due in an interval that starts with its release, as late as it can be
 abbrev pub first_due : Task → ℕ
 first_due task = task.deadline.0 - task.jitter.0
 
--- the times of the tasks, and when their first jobs fall due
-pub record AreTimes (tasks : List Task) (times : Times) : Type 0 where
-  pub lengths : (i : ℕ) → i < task_limit → get_or times.lengths i 0 ≡ (get_or tasks i no_task).length.0
-  pub periods : (i : ℕ) → i < task_limit → get_or times.periods i 0 ≡ (get_or tasks i no_task).period.0
-  pub dues : (i : ℕ) → i < task_limit → get_or times.dues i 0 ≡ first_due (get_or tasks i no_task)
-  pub room : length times.dues ≡ task_limit
+-- each of the first tasks waits for its first job
+abbrev pub Waiting : List Task → ℕ → List ℕ → Type 0
+Waiting tasks count dues = (i : ℕ) → i < count → get_or dues i 0 ≡ first_due (get_or tasks i no_task)

@@ -12,26 +12,28 @@ use borrow.Author.Tests.{le-ltb}
 use Rattle.meaning.specs.Demand.{longest_time, IsWitness}
 use Rattle.meaning.proofs.Bounds.{witness_at_most}
 use Rattle.fields.specs.Deciding.{◌when◌, pick}
+use Rattle.fields.specs.declared.refusal.Reason.{Reason}
+use Rattle.fields.specs.declared.refusal.Reason.TheVariants.{OutOfRange, FewCells}
 use Rattle.sheet.specs.Judging.{judged}
 use Rattle.sheet.specs.Proper.{Bytes}
 use Rattle.sheet.proofs.Accepted.{accepted_proper}
 use Rattle.sheet.proofs.ProperGraph.{proper_sound}
-use Rattle.sheet.specs.declared.Answer.{Answer}
-use Rattle.sheet.specs.declared.Answer.TheVariants as sheet-case
+use Rattle.sheet.specs.Answer.{Answer}
+use Rattle.sheet.specs.Answer as sheet-case
 use Rattle.beginning.specs.Beginning.{graph, room_for, call_rules, Begins}
 use Rattle.beginning.specs.Showing.{WitnessShown}
 use Rattle.beginning.proofs.Showing.{shown_case}
 use Rattle.printing.specs.Refusals.{RefusedBy}
 
 -- a call with room refuses by the sheet or by the number asked with, or comes to its answer
-module _ (bytes : List ℕ) (bad : Bool) (lines room : ℕ) (Refuses : ℕ → ℕ → Type 0) (Answers C : Type 0)
-    (refused : (number place : ℕ) → RefusedBy bytes bad number place → Refuses number place → C)
+module _ (bytes : List ℕ) (bad : Bool) (lines room : ℕ) (Refuses : Reason → ℕ → Type 0) (Answers C : Type 0)
+    (refused : (reason : Reason) (place : ℕ) → RefusedBy bytes bad (record { reason = reason; place = place }) → Refuses reason place → C)
     (answered : (judged bytes).answer ≡ sheet-case.Accepted → bad ≡ false → Answers → C) where
   begins : (enough : bad ≡ false → room_for bytes lines ≤ room) (answer : Answer) → (judged bytes).answer ≡ answer → (test : Bool) → bad ≡ test
-      → Begins answer (11 when test ∷ 12 when ltb room (room_for bytes lines) ∷ []) Refuses Answers → C
+      → Begins answer (OutOfRange when test ∷ FewCells when ltb room (room_for bytes lines) ∷ []) Refuses Answers → C
   unfolding pick
-  begins enough (sheet-case.Refused number place) e test t b = refused number place (inl e) b
-  begins enough sheet-case.Accepted e true t b = refused 11 0 (inr (e, t, refl, refl)) b
+  begins enough (sheet-case.Refused reason place) e test t b = refused reason place (inl e) b
+  begins enough sheet-case.Accepted e true t b = refused OutOfRange 0 (inr (e, t, refl)) b
   begins enough sheet-case.Accepted e false t b = answered e t (rw (le-ltb room (room_for bytes lines) (enough t)) at b)
 
   pub with_room : (bad ≡ false → room_for bytes lines ≤ room) → Begins (judged bytes).answer (call_rules bytes bad lines room) Refuses Answers → C
@@ -44,9 +46,9 @@ module _ (bytes : List ℕ) (are : Bytes bytes) where
     short : length witness ≤ length area
     short = omega (arith, witness_at_most (graph bytes) (proper_sound bytes (judged bytes).sheet (accepted_proper bytes are accepted)) t witness is)
 
-    pub shown_inside : {A : Type 0} (fits tooLong answer : A) (C : Type 0) → (answer ≡ fits → take (length witness) area' ≡ witness → length witness ≤ length area' → C)
-        → WitnessShown witness area fits tooLong answer area' → C
-    shown_inside fits tooLong answer C inside =
-        shown_case witness area fits tooLong C answer area'
+    pub shown_inside : {A : Type 0} (fits too_long answer : A) (C : Type 0) → (answer ≡ fits → take (length witness) area' ≡ witness → length witness ≤ length area' → C)
+        → WitnessShown witness area fits too_long answer area' → C
+    shown_inside fits too_long answer C inside =
+        shown_case witness area fits too_long C answer area'
         (λ more e same. absurd (omega (arith, short)))
         (λ enough e written. inside e (ap (take (length witness)) written ∙ take-append_seam witness _) (omega (arith, ap length written, length-append witness (drop (length witness) area))))

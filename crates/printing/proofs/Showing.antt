@@ -11,18 +11,19 @@ use Rattle.meaning.specs.Demand.{longest_time, IsDemand}
 use Rattle.meaning.proofs.Unique.{demand_unique}
 use Rattle.sheet.specs.Judging.{judged}
 use Rattle.sheet.specs.Proper.{Bytes}
-use Rattle.sheet.specs.declared.Answer.TheVariants.{Accepted}
+use Rattle.sheet.specs.Answer.{Accepted}
 use Rattle.sheet.proofs.AcceptedReady.{accepted_ready}
 use Rattle.tables.specs.Lines.{HasLines, demand_in}
 use Rattle.tables.proofs.Lines.{filled_lines, sheet_demand}
 use Rattle.beginning.specs.Beginning.{graph, rows, room_for, FilledByInterval, interval_rules}
 use Rattle.beginning.proofs.Beginnings.{comes_to_answer}
 use Rattle.desk.specs.Calls.{VerdictAnswers, VerdictCall, VerdictByIntervalCall}
-use Rattle.desk.specs.declared.VerdictAnswer.{VerdictAnswer}
+use Rattle.std.specs.Prelude.{Option, Result}
+use Rattle.fields.specs.declared.refusal.Refusal.{Refusal}
 use Rattle.steps.specs.Rising.{Rises}
 use Rattle.printing.specs.Showing.{ShowsCurve}
 
-module _ (bytes : List ℕ) (fit : Bytes bytes) (accepted : (judged bytes).answer ≡ Accepted) (horizon : ℕ) (old new : List ℕ) (answer : VerdictAnswer)
+module _ (bytes : List ℕ) (fit : Bytes bytes) (accepted : (judged bytes).answer ≡ Accepted) (horizon : ℕ) (old new : List ℕ) (answer : Result (Option ℕ) Refusal)
     (range : horizon ≤ longest_time) (enough : room_for bytes (horizon + 1) ≤ length old) (call : VerdictByIntervalCall bytes horizon old answer new) where
   answered : VerdictAnswers FilledByInterval bytes horizon old answer new
   unfolding VerdictCall

@@ -2,7 +2,9 @@
 use Rattle.std.specs.Prelude.{ℕ, ◌+◌, ◌≤◌, ◌≡◌, ◌⊎◌, Bool, true, false, List, ltb}
 use Rattle.meaning.specs.Demand.{longest_time}
 use Rattle.sheet.specs.Judging.{judged}
-use Rattle.sheet.specs.declared.Answer.TheVariants.{Accepted, Refused}
+use Rattle.sheet.specs.Answer.{Accepted, Refused}
+use Rattle.fields.specs.declared.refusal.Reason.TheVariants.{OutOfRange}
+use Rattle.fields.specs.declared.refusal.Refusal.{Refusal}
 use Rattle.beginning.specs.Beginning.{room_for, bad_amount}
 
 -- rule 11 of an interval or a horizon: it is at most the longest time
@@ -17,7 +19,7 @@ abbrev pub RoomToAmount : List ℕ → ℕ → ℕ → Type 0
 RoomToAmount bytes b cells = bad_amount b ≡ false → room_for bytes b ≤ cells
 
 -- a refusal that more room would not spare: the sheet's own at its place, or 11 at 0 where the number asked with is out of range
-abbrev pub RefusedBy : List ℕ → Bool → ℕ → ℕ → Type 0
-RefusedBy bytes out_of_range number place =
-    ((judged bytes).answer ≡ Refused number place)
-    ⊎ (((judged bytes).answer ≡ Accepted) × (out_of_range ≡ true) × (number ≡ 11) × (place ≡ 0))
+abbrev pub RefusedBy : List ℕ → Bool → Refusal → Type 0
+RefusedBy bytes out_of_range refusal =
+    ((judged bytes).answer ≡ Refused refusal.reason refusal.place)
+    ⊎ (((judged bytes).answer ≡ Accepted) × (out_of_range ≡ true) × (refusal ≡ record { reason = OutOfRange; place = 0 }))

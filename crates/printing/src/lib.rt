@@ -1,13 +1,13 @@
-// The lines that programs print on standard output: a curve with its verdict, a refusal, a witness, and words with numbers; and how they read standard input.
+// The lines that programs print on standard output: a label with a number, a curve with its verdict, a refusal, a witness; and how they read standard input.
 #![tactic(auto)]
 
 mod reading;
 
-ghost use Rattle.std.specs.Prelude.{◌+◌, ◌*◌, ◌≤◌, length};
+ghost use Rattle.std.specs.Prelude.{ℕ, ◌+◌, ◌*◌, ◌≤◌, length};
 ghost use Rattle.meaning.specs.Demand.{longest_time};
 ghost use Rattle.printing.specs.Showing.{ShowsCurve};
 
-use desk::VerdictAnswer;
+use fields::refusal::Refusal;
 pub use reading::read_full;
 use std::io;
 use steps::next_rise;
@@ -23,56 +23,53 @@ pub fn print_curve(
 ) -> io::Result<()>
     requires { ShowsCurve bytes.now rows horizon cells.now }
 {
-    print_head(rt, bytes, b"horizon ", horizon as u64)?;
-    print_steps(rt, cells, rows, horizon)
+    print_head(rt, bytes, "horizon", horizon as u64)?;
+    print_rises(
+        rt,
+        "step",
+        horizon,
+        |from| next_rise(cells, rows, horizon, from),
+        |interval| demand_of(cells, rows, interval) as u64,
+    )
 }
 
-fn print_steps(rt: &impl Print, cells: &[u32], rows: usize, horizon: usize) -> io::Result<()>
-    requires horizon_le_longest_time { horizon ≤ longest_time }
-    requires horizon_in_bounds { rows * (horizon + 1) ≤ length cells.now }
+// A line for each interval up to the horizon at which something rises: a word for it, the interval, and the new amount. `next` finds the first
+// from an interval on, and one past the horizon where there is none.
+pub fn print_rises<N: Fn(usize) -> usize, A: Fn(usize) -> u64>(
+    rt: &impl Print,
+    word: &str,
+    horizon: usize,
+    next: N,
+    amount_at: A,
+) -> io::Result<()>
+    requires in_range { horizon ≤ longest_time }
+    requires next_asked { (from : ℕ) → 1 ≤ from → from ≤ horizon + 1 → N.pre next from }
+    requires next_found { (from found : ℕ) → N.post next from found → (from ≤ found) × (found ≤ horizon + 1) }
+    requires amount_asked { (interval : ℕ) → interval ≤ horizon → A.pre amount_at interval }
 {
-    let mut interval = next_rise(cells, rows, horizon, 1);
+    let mut interval = next(1);
     while interval <= horizon {
-        print_step(rt, interval, demand_of(cells, rows, interval))?;
-        interval = next_rise(cells, rows, horizon, interval + 1);
+        let amount = amount_at(interval);
+        println!(rt; "{word} {interval} {amount}")?;
+        interval = next(interval + 1);
     }
     Ok(())
 }
 
-fn print_step(rt: &impl Print, interval: usize, amount: u32) -> io::Result<()> {
-    print_rise(rt, b"step ", interval, amount as u64)
-}
-
-// An interval behind a word for what rises there, and its new amount.
-pub fn print_rise(rt: &impl Print, word: &[u8], interval: usize, amount: u64) -> io::Result<()> {
-    rt.write_all(word)?;
-    println!(rt; "{interval} {amount}")
-}
-
-pub fn print_verdict(rt: &impl Print, verdict: VerdictAnswer) -> io::Result<()> {
+pub fn print_verdict(rt: &impl Print, verdict: Result<Option<u64>, Refusal>) -> io::Result<()> {
     match verdict {
-        VerdictAnswer::Holds => rt.println("holds"),
-        VerdictAnswer::Overrun { interval } => print_number(rt, b"fails ", interval),
-        VerdictAnswer::Refused { number, place } => print_refusal(rt, number, place),
+        Ok(None) => rt.println("holds"),
+        Ok(Some(interval)) => println!(rt; "fails {interval}"),
+        Err(refusal) => rt.println(refusal),
     }
 }
 
-pub fn print_refusal(rt: &impl Print, number: u8, place: usize) -> io::Result<()> {
-    println!(rt; "refused {number} at {place}")
-}
-
 // The sheet's label, and the number that it is asked with. A label is printed as the bytes that it has, text or not.
-pub fn print_head(rt: &impl Print, bytes: &[u8], word: &[u8], number: u64) -> io::Result<()> {
+pub fn print_head(rt: &impl Print, bytes: &[u8], word: &str, number: u64) -> io::Result<()> {
     rt.print("label ")?;
     rt.write_all(sheet::label(bytes))?;
     rt.println("")?;
-    print_number(rt, word, number)
-}
-
-// The number that ends a line, behind its words.
-pub fn print_number(rt: &impl Print, words: &[u8], number: u64) -> io::Result<()> {
-    rt.write_all(words)?;
-    rt.println(number)
+    println!(rt; "{word} {number}")
 }
 
 // The rows of a witness. Where the engine task asks for nothing there is none, and no line.
@@ -84,11 +81,7 @@ pub fn print_rows(rt: &impl Print, area: &[u8], count: usize) -> io::Result<()>
     }
     rt.print("by")?;
     for row in &area[..count] {
-        print_row(rt, *row)?;
+        print!(rt; " {row}")?;
     }
     rt.println("")
-}
-
-fn print_row(rt: &impl Print, row: u8) -> io::Result<()> {
-    print!(rt; " {row}")
 }

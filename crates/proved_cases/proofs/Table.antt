@@ -13,6 +13,8 @@ use Rattle.meaning.specs.Fixed.{fixed_of, fixed_sum}
 use Rattle.meaning.specs.Verdict.{IsMargin}
 use Rattle.meaning.specs.Computed.{step_at, best_within, best, least_at, least_within, least, demand_of, shortest_of, rest_within, witness_of, margin_of}
 use Rattle.meaning.proofs.Existence.{demand_of_lem, shortest_of_lem, witness_of_lem, margin_of_lem}
+use Rattle.std.specs.Prelude.{Result}
+use Rattle.fields.specs.declared.refusal.Refusal.{Refusal}
 use Rattle.fields.specs.Deciding.{pick, any_from, first_broken}
 use Rattle.fields.specs.Fields.{line_of, fields}
 use Rattle.fields.specs.Reading.{field_at}
@@ -23,13 +25,11 @@ use Rattle.sheet.specs.Content.{gap_shorter, row_gap_rules}
 use Rattle.sheet.specs.Judging.{refusal, head_rules, own_rules, with_field, end_judged, on_field, walk, judged}
 use Rattle.sheet.specs.Meaning.{graph_of, each_task, tasks_of}
 use Rattle.sheet.specs.Proper.{Bytes}
-use Rattle.sheet.specs.declared.Answer.{Answer}
-use Rattle.sheet.specs.declared.Answer.TheVariants.{Accepted, Refused}
+use Rattle.sheet.specs.Answer.{Answer, Accepted, Refused}
 use Rattle.sheet.proofs.Accepted.{accepted_proper}
 use Rattle.sheet.proofs.ProperGraph.{proper_sound}
 use Rattle.desk.specs.Answers.{shortest_numbers}
 use Rattle.beginning.specs.Beginning.{graph, tasks}
-use Rattle.desk.specs.declared.ShortestAnswer.{ShortestAnswer}
 use Rattle.desk.proofs.Agreement.{calls_agree}
 use Rattle.proved_cases.specs.Cases.{Case, demand, witness, shortest, refused, margin, Accepts, Holds, All, cases}
 
@@ -37,7 +37,7 @@ use Rattle.proved_cases.specs.Cases.{Case, demand, witness, shortest, refused, m
 
 abbrev is_accepted : Answer → Bool
 is_accepted Accepted = true
-is_accepted (Refused number place) = false
+is_accepted (Refused reason place) = false
 
 abbrev all_bytes : List ℕ → Bool
 all_bytes [] = true
@@ -99,7 +99,7 @@ all_bytes_lem (b ∷ bytes) t (suc i) = all_bytes_lem bytes (both (ltb b 256) (a
 
 is_accepted_lem : (answer : Answer) → T (is_accepted answer) → answer ≡ Accepted
 is_accepted_lem Accepted t = refl
-is_accepted_lem (Refused number place) t = absurd t
+is_accepted_lem (Refused reason place) t = absurd t
 
 -- the judge accepts the sheet, so its graph is sound
 module _ (bytes : List ℕ) (t : T (accepts bytes)) where
@@ -137,7 +137,7 @@ law (refused bytes b number) h =
     let none : IsShortest (graph bytes) b no_time = subst (IsShortest (graph bytes) b) (eqb→eq _ no_time asked.1) (shortest_of_lem (graph bytes) (sound bytes parts.0) b) in (
       accepted bytes parts.0,
       λ answer call.
-          ap (λ (a : ShortestAnswer). (shortest_numbers a).number)
+          ap (λ (one : Result ℕ Refusal). (shortest_numbers one).number)
           (((calls_agree bytes (accepted bytes parts.0)).no_interval b answer (leb→le 1 b range.0) (leb→le b _ range.1) call).1
           (λ w enough. omega (arith, none.bound w enough, enough.2)))
           ∙ sym (eqb→eq number 14 values.0),

@@ -1,14 +1,14 @@
 -- The table of cases, and what it says of each: the sheet is accepted and the value is the one that the definitions give.
-use Rattle.std.specs.Prelude.{ℕ, ◌≡◌, List, [], ◌∷◌, ℤ, pos, negsuc}
+use Rattle.std.specs.Prelude.{ℕ, ◌≡◌, List, [], ◌∷◌, ℤ, pos, negsuc, Result}
 use Rattle.meaning.specs.Demand.{IsDemand, IsWitness, IsShortest}
 use Rattle.meaning.specs.Verdict.{IsMargin}
 use Rattle.sheet.specs.Judging.{judged}
-use Rattle.sheet.specs.declared.Answer.TheVariants.{Accepted}
+use Rattle.sheet.specs.Answer.{Accepted}
 use Rattle.desk.specs.Answers.{shortest_numbers}
 use Rattle.beginning.specs.Beginning.{graph, tasks}
 use Rattle.desk.specs.Calls.{ShortestCall}
 use Rattle.desk.specs.Agreement.{WithRoom}
-use Rattle.desk.specs.declared.ShortestAnswer.{ShortestAnswer}
+use Rattle.fields.specs.declared.refusal.Refusal.{Refusal}
 use Rattle.proved_cases.specs.Sheets.{sheet_a, sheet_a_with_task, sheet_b, sheet_hangs_on, sheet_late_release}
 
 -- a value of a sheet: its demand at an interval, with or without the witness, its shortest interval for an amount, its margin; or the number by which `shortest` refuses an amount
@@ -29,7 +29,7 @@ Holds (witness bytes t d rows) = Accepts bytes × IsDemand (graph bytes) t d × 
 Holds (shortest bytes b time) = Accepts bytes × IsShortest (graph bytes) b time
 Holds (refused bytes b number) =
     Accepts bytes
-    × ((answer : ShortestAnswer) → WithRoom bytes b (ShortestCall bytes b) answer → (shortest_numbers answer).number ≡ number)
+    × ((answer : Result ℕ Refusal) → WithRoom bytes b (ShortestCall bytes b) answer → (shortest_numbers answer).number ≡ number)
 Holds (margin bytes t m) = Accepts bytes × IsMargin (graph bytes) (tasks bytes) t m
 
 -- every case of a table holds

@@ -1,49 +1,36 @@
 -- A piece that is written into the rest of the output, behind what is written already.
-use Prim.Native.Nat.{ℕ, ◌+◌, ◌-◌, ◌≤◌}
-use native.Mathlib.Nat.{le_refl}
-use native.Mathlib.Omega.{arith}
-use mathlib.Core.Path.{◌≡◌, ◌∙◌, sym, ap, ap₂}
-use mathlib.Core.List.{List, [], ◌++◌, append_assoc, append-nil}
-use lib.ListN.{length, take, drop, length-append, length-drop, drop_of_length-le}
-use lib.Seq.{drop-drop, take-length, take_at, drop_at}
-use borrow.Rule.Slice.PartMut.{put_mid, mid_of, post_of}
+use Rattle.std.proofs.Common.{◌≡◌, ℕ, ◌+◌, ◌-◌, ◌≤◌, List, ◌++◌, length, take, drop, sym, append_assoc, length-append, length-drop, arith}
+use Rattle.std.proofs.Math.Seq.{drop-drop, take_at, drop_at}
+use Rattle.std.proofs.lemmas.Grind.{common_steps}
+use borrow.Rule.Slice.PartMut.{put_mid, mid_of}
 use Rattle.putting.specs.Putting.{Put}
 
--- the part that is lent is the rest
-pub mid_rest : (at : ℕ) (out : List ℕ) → mid_of at (length out - at) out ≡ drop at out
-mid_rest at out = ap (λ (n : ℕ). take n (drop at out)) (sym (length-drop at out)) ∙ take-length (drop at out)
+-- the part that is lent is the rest, and nothing lies behind it
+mid_rest : (at : ℕ) (out : List ℕ) → mid_of at (length out - at) out ≡ drop at out
+mid_rest at out = grind (arith, common_steps)
 
--- and nothing lies behind it
-post_rest : (at : ℕ) (out : List ℕ) → post_of at (length out - at) out ≡ []
-post_rest at out = drop_of_length-le (drop at out) {i = length out - at} (simp length-drop (le_refl (length out - at)))
-
--- what stands at the front of the rest stands at the place that the rest begins at
-rest_put : (at : ℕ) (out piece part : List ℕ) → Put piece (mid_of at (length out - at) out) part
-    → put_mid at (length out - at) out part ≡ take at out ++ piece ++ drop (at + length piece) out
-rest_put at out piece part put =
-    let n = length piece in
-    ap₂ (λ (y z : List ℕ). take at out ++ (y ++ z))
-    (put ∙ ap (λ (m : List ℕ). piece ++ drop n m) (mid_rest at out) ∙ ap (λ (m : List ℕ). piece ++ m) (drop-drop n at out))
-    (post_rest at out)
-    ∙ ap (λ (z : List ℕ). take at out ++ z) (append-nil (piece ++ drop (at + n) out))
-    ∙ sym (append_assoc (take at out) piece (drop (at + n) out))
+put_rest : (at : ℕ) (out part : List ℕ) → put_mid at (length out - at) out part ≡ take at out ++ part
+put_rest at out part = grind (arith, common_steps)
 
 -- a piece behind what is done
 pub put_behind : (at : ℕ) (done piece old out part : List ℕ) → at ≡ length done → Put done old out → Put piece (mid_of at (length out - at) out) part
     → Put (done ++ piece) old (put_mid at (length out - at) out part)
 put_behind at done piece old out part far so_far put =
-    let n = length piece in
-    let here : out ≡ done ++ drop at old = so_far ∙ ap (λ (k : ℕ). done ++ drop k old) (sym far) in
-    rest_put at out piece part put
-    ∙ ap (λ (l : List ℕ). take at l ++ piece ++ drop (at + n) l) here
-    ∙ ap₂ (λ (a b : List ℕ). a ++ piece ++ b) (take_at done (drop at old) at (sym far))
-    (sym (drop-drop n at _) ∙ ap (λ (l : List ℕ). drop n l) (drop_at done (drop at old) at (sym far)) ∙ drop-drop n at old)
-    ∙ ap (λ (k : ℕ). (done ++ piece) ++ drop k old) (ap (λ (k : ℕ). k + n) far ∙ sym (length-append done piece))
+    let before : take at out ≡ done = rw so_far (take_at done _ at (sym far)) in
+    let behind : drop at out ≡ drop at old = rw (so_far, drop_at done _ at (sym far), far) in
+    rw (put_rest at out part, before, put, mid_rest at out, behind, drop-drop, length-append, append_assoc, far)
 
--- where there is room for what is done and a piece behind it, there is room for what is done
-pub room_first : (done piece old : List ℕ) → length (done ++ piece) ≤ length old → length done ≤ length old
-room_first done piece old room = omega (arith, length-append done piece, room)
+-- what is written, and that it reaches up to a place
+pub record Front (done : List ℕ) (at : ℕ) (old out : List ℕ) : Type 0 where
+  pub far : at ≡ length done
+  pub put : Put done old out
 
--- and for the piece behind it
-pub room_behind : (at : ℕ) (done piece old out : List ℕ) → at ≡ length done → length out ≡ length old → length (done ++ piece) ≤ length old → at + length piece ≤ length out
-room_behind at done piece old out far long room = omega (arith, length-append done piece, far, long, room)
+-- a piece more
+pub front_behind : {done : List ℕ} {at : ℕ} {old out : List ℕ} (piece part : List ℕ) {size : ℕ} → Front done at old out → size ≡ length piece → Put piece (mid_of at (length out - at) out) part
+    → Front (done ++ piece) (at + size) old (put_mid at (length out - at) out part)
+front_behind {done} {at} {old} {out} piece part {size} front long put =
+    record { far = omega (arith, length-append done piece, front.far, long); put = put_behind at done piece old out part front.far front.put put }
+
+-- where a piece fits behind a place, it fits the rest
+pub room_rest : (at : ℕ) (piece out : List ℕ) → at + length piece ≤ length out → length piece ≤ length (mid_of at (length out - at) out)
+room_rest at piece out fits = rw (mid_rest at out, length-drop) (omega arith)

@@ -1,5 +1,5 @@
 pub mod Behind
 pub mod BehindHead
-pub mod FirstNumbers
 pub mod Standing
 pub mod UnbrokenColumns
+pub mod Whole

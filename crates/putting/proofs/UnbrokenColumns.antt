@@ -1,17 +1,16 @@
--- Columns whose entries break no rule: the label is short enough, the columns of a kind are equally long, and each row has its gaps.
-use Prim.Native.Nat.{ℕ, ◌+◌, ◌-◌, ◌≤◌, ◌<◌, min}
-use native.Mathlib.Omega.{arith}
-use mathlib.Core.Path.{◌≡◌, refl, subst}
-use mathlib.Core.List.{List, [], ◌∷◌, ◌++◌}
-use lib.ListN.{length, get_or, drop, length-take, length-drop, drop_of_length-le}
+-- Columns whose entries break no rule: the label is short enough, the columns of a kind end together, and each row has its gaps.
+use Rattle.std.proofs.Common.{◌≡◌, ℕ, ◌+◌, ◌-◌, ◌<◌, ◌≤◌, min, List, [], ◌∷◌, ◌++◌, length, get_or, drop, refl, subst, length-take, length-drop, arith}
 use Rattle.fields.specs.Fields.{line_of, fields}
 use Rattle.fields.specs.Limits.{label_limit}
 use Rattle.rules.specs.Rules.{follower_count}
 use Rattle.fields.specs.declared.units.Rpm.{Rpm}
 use Rattle.fields.specs.declared.units.Ticks.{Ticks}
-use Rattle.written.specs.Values.{Entry, LabelEntry, RowEntry, CutEntry, mode_entries, row_entries, task_entries}
-use Rattle.written.proofs.Columns.{cut_broken}
-use Rattle.written.proofs.EntriesFrom.{rows_from, rows_next}
+use Rattle.written.specs.Values.{Entry, LabelEntry, RowEntry, CutEntry}
+use Rattle.written.specs.declared.ModeColumns.{ModeColumns}
+use Rattle.written.specs.declared.RowColumns.{RowColumns}
+use Rattle.written.specs.declared.TaskColumns.{TaskColumns}
+use Rattle.written.proofs.InColumns.{cut_broken}
+use Rattle.written.proofs.EntriesFrom.{mode_among, modes_from, modes_next, modes_end, modes_part, task_among, tasks_from, tasks_next, tasks_end, tasks_part, row_between, rows_from, rows_next, rows_end, rows_part}
 use Rattle.written.proofs.EntriesKept.{entry_kept, label_says, row_says, entries_kept, entries_none, stretches_none}
 use Rattle.putting.specs.Putting.{Unbroken}
 
@@ -37,62 +36,80 @@ row_gaps speed deadline followers gaps more (tally, none) =
     (row_says tally speed deadline followers gaps (entry_kept tally entry (entries_none tally entry more none).0)).0
 
 -- columns that part break a rule
-parted : (tag : ℕ) → 1 ≤ (line_of tag).shortest → Unbroken (CutEntry tag ∷ []) → ⊥
-parted tag some (tally, none) = cut_broken tag [] tally some (entries_kept tally (CutEntry tag ∷ []) none)
+parted : (tag : ℕ) (left : List Entry) → 1 ≤ (line_of tag).shortest → Unbroken left → left ≡ CutEntry tag ∷ [] → ⊥
+parted tag left some unbroken cut =
+    let broken = subst Unbroken cut unbroken in
+    cut_broken tag [] broken.0 some (entries_kept broken.0 (CutEntry tag ∷ []) broken.1)
 
--- so the columns of a kind are equally long
-pub modes_long : (boundaries lengths fallbacks : List ℕ) → Unbroken (mode_entries boundaries lengths fallbacks)
-    → (length boundaries ≡ length lengths) × (length boundaries ≡ length fallbacks)
-unfolding mode_entries line_of fields
-modes_long [] [] [] unbroken = (refl, refl)
-modes_long [] [] (fallback ∷ fallbacks) unbroken = absurd (parted 2 (omega arith) unbroken)
-modes_long [] (x ∷ lengths) fallbacks unbroken = absurd (parted 2 (omega arith) unbroken)
-modes_long (boundary ∷ boundaries) [] fallbacks unbroken = absurd (parted 2 (omega arith) unbroken)
-modes_long (boundary ∷ boundaries) (x ∷ lengths) [] unbroken = absurd (parted 2 (omega arith) unbroken)
-modes_long (boundary ∷ boundaries) (x ∷ lengths) (fallback ∷ fallbacks) unbroken =
-    let behind = modes_long boundaries lengths fallbacks (unbroken_behind _ _ unbroken) in
-    (omega arith, omega arith)
+-- the modes that are left from a number on
+abbrev pub modes_left : ModeColumns → ℕ → List Entry
+modes_left modes number = modes_from modes.boundaries.now modes.lengths.now modes.fallbacks.now number
 
-pub rows_long : (speeds deadlines sets gaps : List ℕ) → Unbroken (row_entries speeds deadlines sets gaps) → (length speeds ≡ length deadlines) × (length speeds ≡ length sets)
-unfolding row_entries line_of fields
-rows_long [] [] [] gaps unbroken = (refl, refl)
-rows_long [] [] (followers ∷ sets) gaps unbroken = absurd (parted 3 (omega arith) unbroken)
-rows_long [] (deadline ∷ deadlines) sets gaps unbroken = absurd (parted 3 (omega arith) unbroken)
-rows_long (speed ∷ speeds) [] sets gaps unbroken = absurd (parted 3 (omega arith) unbroken)
-rows_long (speed ∷ speeds) (deadline ∷ deadlines) [] gaps unbroken = absurd (parted 3 (omega arith) unbroken)
-rows_long (speed ∷ speeds) (deadline ∷ deadlines) (followers ∷ sets) gaps unbroken =
-    let behind = rows_long speeds deadlines sets (drop (follower_count followers) gaps) (unbroken_behind _ _ unbroken) in
-    (omega arith, omega arith)
+module _ (modes : ModeColumns) (number : ℕ) (unbroken : Unbroken (modes_left modes number)) where
+  modes_whole : (number < length modes.boundaries.now → number < length modes.lengths.now → number < length modes.fallbacks.now → ⊥)
+      → (length modes.boundaries.now ≤ number → length modes.lengths.now ≤ number → length modes.fallbacks.now ≤ number → ⊥) → ⊥
+  unfolding line_of fields
+  modes_whole no_more some_more = parted 2 _ (omega arith) unbroken (modes_part modes.boundaries.now modes.lengths.now modes.fallbacks.now number no_more some_more)
 
-pub tasks_long : (lengths periods deadlines jitters : List ℕ) → Unbroken (task_entries lengths periods deadlines jitters)
-    → (length lengths ≡ length periods) × (length lengths ≡ length deadlines) × (length lengths ≡ length jitters)
-unfolding task_entries line_of fields
-tasks_long [] [] [] [] unbroken = (refl, refl, refl)
-tasks_long [] [] [] (jitter ∷ jitters) unbroken = absurd (parted 4 (omega arith) unbroken)
-tasks_long [] [] (deadline ∷ deadlines) jitters unbroken = absurd (parted 4 (omega arith) unbroken)
-tasks_long [] (period ∷ periods) deadlines jitters unbroken = absurd (parted 4 (omega arith) unbroken)
-tasks_long (x ∷ lengths) [] deadlines jitters unbroken = absurd (parted 4 (omega arith) unbroken)
-tasks_long (x ∷ lengths) (period ∷ periods) [] jitters unbroken = absurd (parted 4 (omega arith) unbroken)
-tasks_long (x ∷ lengths) (period ∷ periods) (deadline ∷ deadlines) [] unbroken = absurd (parted 4 (omega arith) unbroken)
-tasks_long (x ∷ lengths) (period ∷ periods) (deadline ∷ deadlines) (jitter ∷ jitters) unbroken =
-    let behind = tasks_long lengths periods deadlines jitters (unbroken_behind _ _ unbroken) in
-    (omega arith, omega arith, omega arith)
+  -- the columns have the mode of the number, which comes first
+  pub mode_there : number < length modes.boundaries.now → (number < length modes.lengths.now) × (number < length modes.fallbacks.now)
+  mode_there less = grind (arith, modes_whole)
 
--- the gaps of the row at a number are there
-pub gaps_there : (speeds deadlines sets gaps : List ℕ) (number from : ℕ) → from ≤ length gaps → number < length speeds → number < length deadlines → number < length sets
-    → Unbroken (rows_from speeds deadlines sets gaps number from) → from + follower_count (get_or sets number 0) ≤ length gaps
-gaps_there speeds deadlines sets gaps number from inside speed deadline followers unbroken =
-    let few = min (follower_count (get_or sets number 0)) (length gaps - from) in
-    let many = row_gaps _ _ _ _ _ (subst Unbroken (rows_next speeds deadlines sets gaps number from (from + few) speed deadline followers refl) unbroken) in
-    omega (arith, many, length-take (from + few - from) (drop from gaps), length-drop from gaps)
+  pub mode_first : number < length modes.boundaries.now
+      → modes_left modes number ≡ mode_among modes.boundaries.now modes.lengths.now modes.fallbacks.now number ∷ modes_left modes (number + 1)
+  mode_first less = modes_next _ _ _ number less (mode_there less).0 (mode_there less).1
 
--- and none is left over behind the rows
-gaps_over : (gaps : List ℕ) → Unbroken (row_entries [] [] [] gaps) → row_entries [] [] [] gaps ≡ []
-unfolding row_entries line_of fields
-gaps_over [] unbroken = refl
-gaps_over (gap ∷ gaps) unbroken = absurd (parted 3 (omega arith) unbroken)
+  -- behind the last none is left
+  pub modes_over : length modes.boundaries.now ≤ number → modes_left modes number ≡ []
+  modes_over none = modes_end _ _ _ number none (grind (arith, modes_whole)) (grind (arith, modes_whole))
 
-pub rows_over : (speeds deadlines sets gaps : List ℕ) (number from : ℕ) → length speeds ≤ number → length deadlines ≤ number → length sets ≤ number
-    → Unbroken (rows_from speeds deadlines sets gaps number from) → rows_from speeds deadlines sets gaps number from ≡ []
-rows_over speeds deadlines sets gaps number from no-speed no-deadline no-set =
-    rw (drop_of_length-le speeds no-speed, drop_of_length-le deadlines no-deadline, drop_of_length-le sets no-set) (gaps_over (drop from gaps))
+-- the fixed tasks that are left from a number on
+abbrev pub tasks_left : TaskColumns → ℕ → List Entry
+tasks_left tasks number = tasks_from tasks.lengths.now tasks.periods.now tasks.deadlines.now tasks.jitters.now number
+
+module _ (tasks : TaskColumns) (number : ℕ) (unbroken : Unbroken (tasks_left tasks number)) where
+  tasks_whole : (number < length tasks.lengths.now → number < length tasks.periods.now → number < length tasks.deadlines.now → number < length tasks.jitters.now → ⊥)
+      → (length tasks.lengths.now ≤ number → length tasks.periods.now ≤ number → length tasks.deadlines.now ≤ number → length tasks.jitters.now ≤ number → ⊥) → ⊥
+  unfolding line_of fields
+  tasks_whole no_more some_more = parted 4 _ (omega arith) unbroken (tasks_part tasks.lengths.now tasks.periods.now tasks.deadlines.now tasks.jitters.now number no_more some_more)
+
+  -- the columns have the fixed task of the number, which comes first
+  pub task_there : number < length tasks.lengths.now → (number < length tasks.periods.now) × (number < length tasks.deadlines.now) × (number < length tasks.jitters.now)
+  task_there less = grind (arith, tasks_whole)
+
+  pub task_first : number < length tasks.lengths.now
+      → tasks_left tasks number ≡ task_among tasks.lengths.now tasks.periods.now tasks.deadlines.now tasks.jitters.now number ∷ tasks_left tasks (number + 1)
+  task_first less = tasks_next _ _ _ _ number less (task_there less).0 (task_there less).1 (task_there less).2
+
+  -- behind the last none is left
+  pub tasks_over : length tasks.lengths.now ≤ number → tasks_left tasks number ≡ []
+  tasks_over none = tasks_end _ _ _ _ number none (grind (arith, tasks_whole)) (grind (arith, tasks_whole)) (grind (arith, tasks_whole))
+
+-- the rows that are left from a number on, with the gaps from a place on
+abbrev pub rows_left : RowColumns → ℕ → ℕ → List Entry
+rows_left rows number from = rows_from rows.speeds.now rows.deadlines.now rows.sets.now rows.gaps.now number from
+
+module _ (rows : RowColumns) (number from : ℕ) (unbroken : Unbroken (rows_left rows number from)) where
+  rows_whole : min (length rows.speeds.now) (min (length rows.deadlines.now) (length rows.sets.now)) ≤ number
+      → (length rows.speeds.now ≤ number → length rows.deadlines.now ≤ number → length rows.sets.now ≤ number → length rows.gaps.now ≤ from → ⊥) → ⊥
+  unfolding line_of fields
+  rows_whole no_more some_more = parted 3 _ (omega arith) unbroken (rows_part rows.speeds.now rows.deadlines.now rows.sets.now rows.gaps.now number from no_more some_more)
+
+  -- the columns have the row of the number, which comes first, and its gaps
+  pub row_there : number < length rows.speeds.now → (number < length rows.deadlines.now) × (number < length rows.sets.now)
+  row_there less = grind (arith, rows_whole)
+
+  pub gaps_there : from ≤ length rows.gaps.now → number < length rows.speeds.now → from + follower_count (get_or rows.sets.now number 0) ≤ length rows.gaps.now
+  gaps_there inside less =
+      let few = min (follower_count (get_or rows.sets.now number 0)) (length rows.gaps.now - from) in
+      let many = row_gaps _ _ _ _ _ (subst Unbroken (rows_next _ _ _ _ number from (from + few) less (row_there less).0 (row_there less).1 refl) unbroken) in
+      omega (arith, many, length-take (from + few - from) (drop from rows.gaps.now), length-drop from rows.gaps.now)
+
+  pub row_first : (to : ℕ) → to ≡ from + follower_count (get_or rows.sets.now number 0) → from ≤ length rows.gaps.now → number < length rows.speeds.now
+      → rows_left rows number from ≡ row_between rows.speeds.now rows.deadlines.now rows.sets.now rows.gaps.now number from to ∷ rows_left rows (number + 1) to
+  row_first to reach inside less = rows_next _ _ _ _ number from to less (row_there less).0 (row_there less).1 (omega (arith, gaps_there inside less, reach))
+
+  -- behind the last none is left, and no gap
+  pub rows_over : length rows.speeds.now ≤ number → rows_left rows number from ≡ []
+  rows_over none =
+      rows_end _ _ _ _ number from none (grind (arith, rows_whole)) (grind (arith, rows_whole)) (grind (arith, rows_whole))

@@ -1,12 +1,11 @@
 -- The rules 3 and 5 to 10 on the tally and on values: a test for each, and the order in which a field's rules are tried.
-use Rattle.std.specs.Prelude.{ℕ, ◌+◌, ◌-◌, ◌*◌, ◌%◌, List, [], ◌∷◌, Bool, true, false, not, get_or, ltb, leb, eqb}
+use Rattle.std.specs.Prelude.{ℕ, ◌+◌, ◌-◌, ◌*◌, ◌%◌, List, [], ◌∷◌, Bool, true, false, not, get_or, ltb, leb, eqb, is_some}
 use Rattle.sets.specs.Sets.{width, below, next_in}
-use Rattle.sets.specs.declared.Next.{Next}
-use Rattle.sets.specs.declared.Next.TheVariants.{At, Nothing}
 use Rattle.fields.specs.Deciding.{Rule, ◌when◌, ◌or◌, pick, any_from}
 use Rattle.fields.specs.Fields.{line_of}
 use Rattle.fields.specs.Limits.{rpm_limit, mode_size, head_size, gap_size}
 use Rattle.fields.specs.Values.{no_row}
+use Rattle.fields.specs.declared.refusal.Reason.TheVariants.{OutOfOrder, WrongLength, TooMany, BadValue, NotRising, ShortGap}
 use Rattle.fields.specs.declared.units.Rpm.{Rpm}
 use Rattle.fields.specs.declared.units.Ticks.{Ticks}
 use Rattle.fields.specs.declared.values.Mode.{Mode}
@@ -58,14 +57,9 @@ bad_rpm speed = eqb speed.0 0 or ltb rpm_limit speed.0
 abbrev pub no_ticks : Ticks → Bool
 no_ticks time = eqb time.0 0
 
--- whether a set has a next row
-abbrev pub is_at : Next → Bool
-is_at (At row) = true
-is_at Nothing = false
-
 -- rule 9 of one set: it has a row at or after the number of rows
 unfoldable pub unknown_in : ℕ → ℕ → Bool
-unknown_in followers rows = is_at (next_in (width - rows) followers rows)
+unknown_in followers rows = is_some (next_in (width - rows) followers rows)
 
 -- rule 9: one of the rows names a row that does not exist
 unfoldable pub unknown_follower : List Row → ℕ → Bool
@@ -74,15 +68,15 @@ unknown_follower rows count = any_from (λ k. unknown_in (get_or rows k no_row).
 -- the first rules of every known field: its place in the order, its length, its count, where it is known whether it is a row whose length is unlike its set
 unfoldable pub common_rules : ℕ → ℕ → ℕ → Bool → ℕ → List Rule
 common_rules tag last size unlike count =
-    3 when (out_of_order last tag)
-    ∷ 5 when (wrong_length tag size)
-    ∷ 5 when unlike
-    ∷ 6 when (full tag count)
+    OutOfOrder when (out_of_order last tag)
+    ∷ WrongLength when (wrong_length tag size)
+    ∷ WrongLength when unlike
+    ∷ TooMany when (full tag count)
     ∷ []
 
 -- the rule of a label's bytes
 unfoldable pub text_rules : List ℕ → ℕ → ℕ → List Rule
-text_rules bytes start size = 7 when (bad_text bytes start size) ∷ []
+text_rules bytes start size = BadValue when (bad_text bytes start size) ∷ []
 
 -- rule 7: a fall-back of 0, above its own boundary or below the boundary before; a mode's field of so many bytes is not judged by it where it has none
 unfoldable pub bad_fallback : Tally → Mode → ℕ → Bool
@@ -97,30 +91,30 @@ last_hangs tally = not (eqb tally.fallback.0 tally.top.0)
 -- the rules of the numbers of a mode whose field has so many bytes; rule 8: a boundary that is not above the one before
 unfoldable pub mode_rules : Tally → Mode → ℕ → List Rule
 mode_rules tally mode size =
-    7 when (bad_rpm mode.boundary)
-    ∷ 7 when (no_ticks mode.length)
-    ∷ 7 when (bad_fallback tally mode size)
-    ∷ 8 when (leb mode.boundary.0 tally.top.0)
+    BadValue when (bad_rpm mode.boundary)
+    ∷ BadValue when (no_ticks mode.length)
+    ∷ BadValue when (bad_fallback tally mode size)
+    ∷ NotRising when (leb mode.boundary.0 tally.top.0)
     ∷ []
 
 -- the rules of a row's numbers, where it is known whether a gap is zero and whether one is below the deadline
 -- rule 8: a speed that is not above the one before, or is above the last boundary; rule 10: a gap below the deadline
 unfoldable pub row_rules : Tally → Row → Bool → Bool → List Rule
-row_rules tally row zeroGap shortGap =
-    7 when (last_hangs tally)
-    ∷ 7 when (bad_rpm row.speed)
-    ∷ 7 when (no_ticks row.deadline)
-    ∷ 7 when zeroGap
-    ∷ 8 when (leb row.speed.0 tally.fastest.0)
-    ∷ 8 when (ltb tally.top.0 row.speed.0)
-    ∷ 10 when shortGap
+row_rules tally row zero_gap short_gap =
+    BadValue when (last_hangs tally)
+    ∷ BadValue when (bad_rpm row.speed)
+    ∷ BadValue when (no_ticks row.deadline)
+    ∷ BadValue when zero_gap
+    ∷ NotRising when (leb row.speed.0 tally.fastest.0)
+    ∷ NotRising when (ltb tally.top.0 row.speed.0)
+    ∷ ShortGap when short_gap
     ∷ []
 
 -- the rules of a fixed task's numbers; the last, a jitter at or above the deadline, is broken by a deadline of 0 too, which has a rule of its own as in a row
 unfoldable pub task_rules : Task → List Rule
 task_rules task =
-    7 when (no_ticks task.length)
-    ∷ 7 when (no_ticks task.period)
-    ∷ 7 when (no_ticks task.deadline)
-    ∷ 7 when (leb task.deadline.0 task.jitter.0)
+    BadValue when (no_ticks task.length)
+    ∷ BadValue when (no_ticks task.period)
+    ∷ BadValue when (no_ticks task.deadline)
+    ∷ BadValue when (leb task.deadline.0 task.jitter.0)
     ∷ []

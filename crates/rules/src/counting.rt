@@ -10,9 +10,7 @@ use fields::values::{Mode, Tally};
 pub fn count_label(tally: Tally) -> Tally
     ensures { result ≡ count_label tally }
 {
-    let mut next = tally;
-    next.last = 1;
-    next
+    Tally { last: 1, ..tally }
 }
 
 // One mode more, with its boundary and fall-back.
@@ -20,14 +18,13 @@ pub fn count_mode(tally: Tally, mode: Mode) -> Tally
     requires { tally.modes < mode_limit }
     ensures { result ≡ count_mode tally mode }
 {
-    let mut next = tally;
-    let boundary = mode.boundary;
-    let fallback = mode.fallback;
-    next.last = 2;
-    next.modes = tally.modes + 1;
-    next.top = boundary;
-    next.fallback = fallback;
-    next
+    Tally {
+        last: 2,
+        modes: tally.modes + 1,
+        top: mode.boundary,
+        fallback: mode.fallback,
+        ..tally
+    }
 }
 
 // One row more, with its speed.
@@ -35,11 +32,12 @@ pub fn count_row(tally: Tally, speed: Rpm) -> Tally
     requires { tally.rows < row_limit }
     ensures { result ≡ count_row tally speed }
 {
-    let mut next = tally;
-    next.last = 3;
-    next.rows = tally.rows + 1;
-    next.fastest = speed;
-    next
+    Tally {
+        last: 3,
+        rows: tally.rows + 1,
+        fastest: speed,
+        ..tally
+    }
 }
 
 // One fixed task more.
@@ -47,8 +45,9 @@ pub fn count_task(tally: Tally) -> Tally
     requires { tally.tasks < task_limit }
     ensures { result ≡ count_task tally }
 {
-    let mut next = tally;
-    next.last = 4;
-    next.tasks = tally.tasks + 1;
-    next
+    Tally {
+        last: 4,
+        tasks: tally.tasks + 1,
+        ..tally
+    }
 }

@@ -4,16 +4,17 @@ ghost use Rattle.fields.specs.Deciding.{first_broken};
 ghost use Rattle.rules.specs.Rules.{bad_text, text_rules};
 
 use crate::bad_byte;
+use fields::refusal::Reason;
 
 // The rule of a label's bytes, of which there are `size` from `start` on.
-pub fn text_number(bytes: &[u8], start: usize, size: usize) -> u8
+pub fn judge_text(bytes: &[u8], start: usize, size: usize) -> Result<(), Reason>
     requires { start + size ≤ length bytes.now }
     ensures { result ≡ first_broken (text_rules bytes.now start size) }
 {
     if bad_text(bytes, start, size) {
-        return 7;
+        return Err(Reason::BadValue);
     }
-    0
+    Ok(())
 }
 
 // A byte that rule 7 does not allow.
@@ -21,13 +22,7 @@ fn bad_text(bytes: &[u8], start: usize, size: usize) -> bool
     requires { start + size ≤ length bytes.now }
     ensures { result ≡ bad_text bytes.now start size }
 {
-    let mut at = start;
-    let end = start + size;
-    while at < end {
-        if bad_byte(bytes[at]) {
-            return true;
-        }
-        at += 1;
-    }
-    false
+    bytes[start..start + size]
+        .iter()
+        .any(|byte| bad_byte(*byte))
 }

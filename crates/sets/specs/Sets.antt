@@ -1,7 +1,5 @@
 -- Sets of rows as numbers: bit j says whether row j is in the set. The definitions know no width, since a number has as many bits as one asks for.
-use Rattle.std.specs.Prelude.{Bool, ℕ, zero, suc, ◌+◌, ◌/◌, ◌%◌, ◌^◌, eqb}
-use Rattle.sets.specs.declared.Next.{Next}
-use Rattle.sets.specs.declared.Next.TheVariants.{At, Nothing}
+use Rattle.std.specs.Prelude.{Bool, ℕ, zero, suc, ◌+◌, ◌/◌, ◌%◌, ◌^◌, eqb, Option, Some, None}
 
 -- how many bits a set has in code
 abbrev pub width : ℕ
@@ -21,14 +19,14 @@ below s zero = zero
 below s (suc j) = below s j + bit s j
 
 -- the first of two answers where a bit is 1, the second where it is 0
-abbrev pub pick_next : ℕ → Next → Next → Next
+abbrev pub pick_next : ℕ → Option ℕ → Option ℕ → Option ℕ
 pick_next zero here later = later
 pick_next (suc n) here later = here
 
 -- the first of the d rows from j on that is in the set s
-unfoldable pub next_in : ℕ → ℕ → ℕ → Next
-next_in zero s j = Nothing
-next_in (suc d) s j = pick_next (bit s j) (At j) (next_in d s (suc j))
+unfoldable pub next_in : ℕ → ℕ → ℕ → Option ℕ
+next_in zero s j = None
+next_in (suc d) s j = pick_next (bit s j) (Some j) (next_in d s (suc j))
 
 -- what f makes of a where a bit is 1, and a itself where it is 0
 abbrev pub on_bit {ℓ} : {A : Type ℓ} → ℕ → (A → A) → A → A

@@ -7,19 +7,12 @@ ghost use Rattle.sets.specs.Sets.{width, below, next_in};
 // How many bits a set has.
 pub const WIDTH: usize = 64;
 
-// What a search from a place finds: a row, or that no row is left.
-#[derive(Clone, Copy)]
-pub enum Next {
-    At(usize),
-    Nothing,
-}
-
 // How many rows are in the set.
 pub fn size(set: u64) -> usize
     ensures value { result ≡ below set width }
     ensures upper_bound { result ≤ width }
 {
-    u64::count_ones(set) as usize
+    set.count_ones() as usize
 }
 
 // How many rows of the set stand below a row. The remainder by the row's bit keeps those rows and no other.
@@ -30,21 +23,20 @@ pub fn below_row(set: u64, row: usize) -> usize
     if WIDTH <= row {
         return size(set);
     }
-    let one: u64 = 1;
-    size(set % (one << row))
+    size(set % (1 << row))
 }
 
 // The first row of the set at a place or after it.
-pub fn next_from(set: u64, from: usize) -> Next
+pub fn next_from(set: u64, from: usize) -> Option<usize>
     ensures { result ≡ next_in (width - from) set from }
 {
     if WIDTH <= from {
-        return Next::Nothing;
+        return None;
     }
     let rest = set >> from;
     if rest == 0 {
-        return Next::Nothing;
+        return None;
     }
-    let row = from + u64::trailing_zeros(rest) as usize;
-    Next::At(row)
+    let row = from + rest.trailing_zeros() as usize;
+    Some(row)
 }

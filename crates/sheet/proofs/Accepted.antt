@@ -14,8 +14,8 @@ use Rattle.rules.specs.Rules.{unknown_follower}
 use Rattle.fields.specs.Reading.{mode_at}
 use Rattle.fields.specs.Values.{empty_sheet, no_mode, no_row, no_task}
 use Rattle.sheet.specs.Judging.{refusal, judged}
-use Rattle.sheet.specs.declared.Answer.TheVariants.{Accepted}
-use Rattle.sheet.specs.declared.Judged.{Judged}
+use Rattle.sheet.specs.Answer.{Accepted}
+use Rattle.sheet.specs.Answer.{Judged}
 use Rattle.fields.specs.declared.values.Mode.{Mode}
 use Rattle.fields.specs.declared.values.Sheet.{Sheet}
 use Rattle.sheet.proofs.Growing.{Held, Rising, held_none, rising_none, pairs_more, last_new, held_more, rising_more}

@@ -5,7 +5,7 @@ use mathlib.Core.List.{List}
 use Rattle.sheet.specs.Judging.{judged}
 use Rattle.sheet.specs.Proper.{Bytes}
 use Rattle.sheet.specs.Ready.{Ready}
-use Rattle.sheet.specs.declared.Answer.TheVariants.{Accepted}
+use Rattle.sheet.specs.Answer.{Accepted}
 use Rattle.sheet.proofs.Accepted.{accepted_proper}
 use Rattle.sheet.proofs.ProperGraph.{proper_sound, length_proper}
 

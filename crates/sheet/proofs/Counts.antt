@@ -9,8 +9,8 @@ use Rattle.sheet.specs.Judging.{judged}
 use Rattle.sheet.specs.Proper.{Bytes}
 use Rattle.sheet.proofs.Accepted.{accepted_proper}
 use Rattle.sheet.proofs.Refusals.{refused_empty}
-use Rattle.sheet.specs.declared.Answer.{Answer}
-use Rattle.sheet.specs.declared.Answer.TheVariants.{Accepted, Refused}
+use Rattle.sheet.specs.Answer.{Answer}
+use Rattle.sheet.specs.Answer.{Accepted, Refused}
 use Rattle.fields.specs.declared.values.Tally.{Tally}
 
 -- a tally of no more than the limits

@@ -7,6 +7,7 @@ use mathlib.Core.Bool.{true, false, true≢false}
 use lib.Dec.{T, ltb}
 use lib.ListN.{length}
 use borrow.Author.Tests.{ltb-false}
+use Rattle.std.specs.Prelude.{Result, Ok, Err}
 use Rattle.fields.specs.Deciding.{Rule, ◌when◌, pick}
 use Rattle.fields.specs.Fields.{is_end}
 use Rattle.fields.specs.Reading.{field_at, mode_at, row_at, task_at}
@@ -17,66 +18,67 @@ use Rattle.sheet.specs.Content.{row_gap_rules}
 use Rattle.sheet.specs.Judging.{refusal, head_rules, own_rules, field_rules, with_field, checked, end_judged, on_field, walk, judged}
 use Rattle.fields.specs.declared.table.Kind.{Kind}
 use Rattle.fields.specs.declared.table.Kind.TheVariants.{RefusedTag, LabelField, ModeField, RowField, TaskField, EndField, SkippedField}
-use Rattle.fields.specs.declared.reader.Step.{Step}
-use Rattle.fields.specs.declared.reader.Step.TheVariants.{Field, Refusal}
+use Rattle.fields.specs.declared.reader.Field.{Field}
+use Rattle.fields.specs.declared.refusal.Reason.{Reason}
+use Rattle.fields.specs.declared.refusal.Reason.TheVariants.{BehindTheEnd, UnknownFollower}
+use Rattle.fields.specs.declared.refusal.Refusal.{Refusal}
 use Rattle.fields.specs.declared.values.Sheet.{Sheet}
-use Rattle.sheet.specs.declared.Answer.TheVariants.{Accepted}
-use Rattle.sheet.specs.declared.Judged.{Judged}
-use Rattle.fields.proofs.Deciding.{Kept, OfFile, numbered, first_numbered}
-use Rattle.sheet.proofs.Numbered.{common_says, field_numbered, field_kept}
-use Rattle.sheet.proofs.Walking.{field_in, refused_in}
+use Rattle.sheet.specs.Answer.{Accepted, Judged}
+use Rattle.fields.proofs.Deciding.{Kept, OfFile, of_file, first_of_file}
+use Rattle.sheet.proofs.Numbered.{common_says, field_of_file, field_kept}
+use Rattle.sheet.proofs.Walking.{found, field_in, refused_in}
 
-module _ (Q : Judged → Type 0) (place : ℕ) (refused : (n : ℕ) → OfFile n → Q (refusal n place)) where
+module _ (Q : Judged → Type 0) (place : ℕ) (refused : (reason : Reason) → OfFile reason → Q (refusal reason place)) where
   -- what holds of each refusal, and of `ok` where every rule is kept, holds of what is checked
-  pub checked_keeps : (rules : List Rule) (ok : Judged) → T (numbered rules) → (Kept rules → Q ok) → Q (checked place rules ok)
+  pub checked_keeps : (rules : List Rule) (ok : Judged) → T (of_file rules) → (Kept rules → Q ok) → Q (checked place rules ok)
   unfolding pick
   checked_keeps [] ok t f = f tt
-  checked_keeps (n when true ∷ rules) ok t f = refused n (first_numbered n true rules t).0
-  checked_keeps (n when false ∷ rules) ok t f = checked_keeps rules ok (first_numbered n false rules t).1 (λ k. f (refl, k))
+  checked_keeps (reason when true ∷ rules) ok t f = refused reason (first_of_file reason true rules t).0
+  checked_keeps (reason when false ∷ rules) ok t f = checked_keeps rules ok (first_of_file reason false rules t).1 (λ k. f (refl, k))
 
 -- P holds of the sheet so far at each place where a field starts, and Q of each answer: of every refusal, and of the sheet that the end field accepts
 pub record Keeps (bytes : List ℕ) (P : ℕ → Sheet → Type 0) (Q : Judged → Type 0) : Type 0 where
   pub none : P 0 empty_sheet
-  pub refused : (n place : ℕ) → OfFile n → place ≤ length bytes → Q (refusal n place)
-  pub label : (sheet : Sheet) (at start size next : ℕ) → field_at bytes at ≡ Field LabelField start size next → P at sheet
+  pub refused : (reason : Reason) (place : ℕ) → OfFile reason → place ≤ length bytes → Q (refusal reason place)
+  pub label : (sheet : Sheet) (at start size next : ℕ) → field_at bytes at ≡ found LabelField start size next → P at sheet
       → Kept (common_rules 1 sheet.tally.last size false 0) → bad_text bytes start size ≡ false
       → P next (with_label sheet start size)
-  pub mode : (sheet : Sheet) (at start size next : ℕ) → field_at bytes at ≡ Field ModeField start size next → P at sheet
+  pub mode : (sheet : Sheet) (at start size next : ℕ) → field_at bytes at ≡ found ModeField start size next → P at sheet
       → Kept (common_rules 2 sheet.tally.last size false sheet.tally.modes) → Kept (mode_rules sheet.tally (mode_at bytes start size) size)
       → P next (with_mode sheet (mode_at bytes start size))
-  pub row : (sheet : Sheet) (at start size next : ℕ) → field_at bytes at ≡ Field RowField start size next → P at sheet
+  pub row : (sheet : Sheet) (at start size next : ℕ) → field_at bytes at ≡ found RowField start size next → P at sheet
       → Kept (common_rules 3 sheet.tally.last size (unlike_set size (row_at bytes start).followers) sheet.tally.rows) → Kept (row_gap_rules bytes sheet.tally (row_at bytes start))
       → P next (with_row sheet (row_at bytes start))
-  pub task : (sheet : Sheet) (at start size next : ℕ) → field_at bytes at ≡ Field TaskField start size next → P at sheet
+  pub task : (sheet : Sheet) (at start size next : ℕ) → field_at bytes at ≡ found TaskField start size next → P at sheet
       → Kept (common_rules 4 sheet.tally.last size false sheet.tally.tasks) → Kept (task_rules (task_at bytes start size))
       → P next (with_task sheet (task_at bytes start size))
-  pub skipped : (sheet : Sheet) (at start size next : ℕ) → field_at bytes at ≡ Field SkippedField start size next → P at sheet → P next sheet
-  pub accepted : (sheet : Sheet) (at start size next : ℕ) → field_at bytes at ≡ Field EndField start size next → P at sheet
+  pub skipped : (sheet : Sheet) (at start size next : ℕ) → field_at bytes at ≡ found SkippedField start size next → P at sheet → P next sheet
+  pub accepted : (sheet : Sheet) (at start size next : ℕ) → field_at bytes at ≡ found EndField start size next → P at sheet
       → out_of_order sheet.tally.last 5 ≡ false → wrong_length 5 size ≡ false → unknown_follower sheet.rows sheet.tally.rows ≡ false → next ≡ length bytes
       → Q (record { answer = Accepted; sheet = sheet })
 
 module _ (bytes : List ℕ) (P : ℕ → Sheet → Type 0) (Q : Judged → Type 0) (keeps : Keeps bytes P Q) where
   -- a field is refused where it starts
-  refused_at : (kind : Kind) (at start size next : ℕ) → field_at bytes at ≡ Field kind start size next → (n : ℕ) → OfFile n → Q (refusal n at)
-  refused_at kind at start size next e n o = keeps.refused n at o (omega (arith, field_in bytes at kind start size next e))
+  refused_at : (kind : Kind) (at start size next : ℕ) → field_at bytes at ≡ found kind start size next → (reason : Reason) → OfFile reason → Q (refusal reason at)
+  refused_at kind at start size next e reason o = keeps.refused reason at o (omega (arith, field_in bytes at kind start size next e))
 
   -- and the end field also where the next would start
-  refused_after : (kind : Kind) (at start size next : ℕ) → field_at bytes at ≡ Field kind start size next → (n : ℕ) → OfFile n → Q (refusal n next)
-  refused_after kind at start size next e n o = keeps.refused n next o (field_in bytes at kind start size next e).2
+  refused_after : (kind : Kind) (at start size next : ℕ) → field_at bytes at ≡ found kind start size next → (reason : Reason) → OfFile reason → Q (refusal reason next)
+  refused_after kind at start size next e reason o = keeps.refused reason next o (field_in bytes at kind start size next e).2
 
   -- the end, where the field itself is in order
-  end_keeps : (sheet : Sheet) (at start size next : ℕ) → field_at bytes at ≡ Field EndField start size next → P at sheet
+  end_keeps : (sheet : Sheet) (at start size next : ℕ) → field_at bytes at ≡ found EndField start size next → P at sheet
       → out_of_order sheet.tally.last 5 ≡ false → wrong_length 5 size ≡ false → Q (end_judged bytes sheet at next)
   unfolding end_judged
   end_keeps sheet at start size next e p order long =
-      checked_keeps Q at (refused_at _ at start size next e) (9 when (unknown_follower sheet.rows sheet.tally.rows) ∷ []) _ tt
-      (λ followers. checked_keeps Q next (refused_after _ at start size next e) (4 when (ltb next (length bytes)) ∷ []) _ tt
+      checked_keeps Q at (refused_at _ at start size next e) (UnknownFollower when (unknown_follower sheet.rows sheet.tally.rows) ∷ []) _ tt
+      (λ followers. checked_keeps Q next (refused_after _ at start size next e) (BehindTheEnd when (ltb next (length bytes)) ∷ []) _ tt
       (λ last.
       let end : length bytes ≤ next = ltb-false _ _ last.0 in
       keeps.accepted sheet at start size next e p order long followers.0 (omega (arith, field_in bytes at _ start size next e))))
 
   -- what is left to judge where the rules of the field are kept: the kind's line of `Keeps` has what it asks for
-  rest_keeps : (sheet : Sheet) (kind : Kind) (at start size next : ℕ) (rest : Judged) → field_at bytes at ≡ Field kind start size next → P at sheet
+  rest_keeps : (sheet : Sheet) (kind : Kind) (at start size next : ℕ) (rest : Judged) → field_at bytes at ≡ found kind start size next → P at sheet
       → Kept (head_rules bytes sheet.tally kind start size) → Kept (own_rules bytes sheet.tally kind start size)
       → (P next (with_field bytes sheet kind start size) → Q rest) → Q (pick (is_end kind) (end_judged bytes sheet at next) rest)
   unfolding head_rules own_rules text_rules with_field pick
@@ -91,16 +93,20 @@ module _ (bytes : List ℕ) (P : ℕ → Sheet → Type 0) (Q : Judged → Type 
   rest_keeps sheet SkippedField at start size next rest e p head own f = f (keeps.skipped sheet at start size next e p)
 
   -- one field, where what is left of the file keeps Q
-  one_field : (sheet : Sheet) (at n : ℕ) (step : Step) → field_at bytes at ≡ step → at ≤ length bytes → length bytes < suc n + at → P at sheet
+  one_field : (sheet : Sheet) (at n : ℕ) (here : Result Field Refusal) → field_at bytes at ≡ here → at ≤ length bytes → length bytes < suc n + at → P at sheet
       → ((next : ℕ) (grown : Sheet) → next ≤ length bytes → length bytes < n + next → P next grown → Q (walk bytes n next grown))
-      → Q (on_field bytes sheet at (walk bytes n) step)
+      → Q (on_field bytes sheet at (walk bytes n) here)
   unfolding on_field
-  one_field sheet at n (Refusal number place) e inside enough p rest =
-      let r = refused_in bytes at number place e in
-      keeps.refused number place r.0 (omega (arith, r.1))
-  one_field sheet at n (Field kind start size next) e inside enough p rest =
+  one_field sheet at n (Err refused) e inside enough p rest =
+      let r = refused_in bytes at refused e in
+      keeps.refused refused.reason refused.place r.0 (omega (arith, r.1))
+  one_field sheet at n (Ok field) e inside enough p rest =
+      let kind = field.kind in
+      let start = field.start in
+      let size = field.size in
+      let next = field.next in
       let lies = field_in bytes at kind start size next e in
-      checked_keeps Q at (refused_at kind at start size next e) (field_rules bytes sheet.tally kind start size) _ (field_numbered bytes sheet.tally start size kind)
+      checked_keeps Q at (refused_at kind at start size next e) (field_rules bytes sheet.tally kind start size) _ (field_of_file bytes sheet.tally start size kind)
       (λ kept.
       let both = field_kept bytes sheet.tally start size kind kept in
       rest_keeps sheet kind at start size next _ e p both.0 both.1 (rest next _ lies.2 (omega arith)))

@@ -8,9 +8,8 @@ use mathlib.Core.List.{List}
 use lib.Dec.{ltb, eqb}
 use lib.ListN.{get_or}
 use borrow.Author.Tests.{lt-ltb, ltb-false, eqb-false, ne_eqb}
+use Rattle.std.specs.Prelude.{Option, Some, None, is_some}
 use Rattle.sets.specs.Sets.{width, bit, next_in}
-use Rattle.sets.specs.declared.Next.{Next}
-use Rattle.sets.specs.declared.Next.TheVariants.{At, Nothing}
 use Rattle.sets.proofs.Search.{next_none}
 use Rattle.meaning.proofs.Tests.{lt_or}
 use Rattle.fields.specs.Deciding.{pick}
@@ -18,7 +17,7 @@ use Rattle.fields.specs.Fields.{line_of}
 use Rattle.fields.specs.Limits.{gap_size}
 use Rattle.sheet.specs.Proper.{InRange}
 use Rattle.fields.specs.Reading.{word_at}
-use Rattle.rules.specs.Rules.{missing, out_of_order, bad_rpm, no_ticks, is_at, unknown_in, unknown_follower}
+use Rattle.rules.specs.Rules.{missing, out_of_order, bad_rpm, no_ticks, unknown_in, unknown_follower}
 use Rattle.sheet.specs.Content.{gap_shorter}
 use Rattle.fields.specs.Values.{no_row}
 use Rattle.fields.specs.declared.units.Rpm.{Rpm}
@@ -55,9 +54,9 @@ pub gaps_kept : (bytes : List ℕ) (place count : ℕ) (bound : Ticks) → gap_s
 unfolding gap_shorter
 gaps_kept bytes place count bound e i h = ltb-false _ _ (any_false _ 0 count e i (omega arith) (omega arith))
 
-pub nothing : (next : Next) → is_at next ≡ false → next ≡ Nothing
-nothing (At row) e = absurd (true≢false e)
-nothing Nothing e = refl
+pub nothing : (next : Option ℕ) → is_some next ≡ false → next ≡ None
+nothing (Some row) e = absurd (true≢false e)
+nothing None e = refl
 
 -- 9: a follower below the width of a set is one of the sheet's rows
 pub followers_kept : (rows : List Row) (count : ℕ) → unknown_follower rows count ≡ false → (k : ℕ) → k < count

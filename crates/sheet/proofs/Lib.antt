@@ -2,8 +2,9 @@ pub mod Numbered
 pub mod Walking
 pub mod KeptRules
 pub mod Keeping
-pub mod LabelInside
 pub mod Refusals
+pub mod Answering
+pub mod LabelInside
 pub mod Growing
 pub mod ProperFields
 pub mod Accepted
@@ -13,3 +14,4 @@ pub mod Determined
 pub mod Counts
 pub mod RowPlaces
 pub mod Outlining
+pub mod Judgements

@@ -5,6 +5,7 @@ use mathlib.Core.Bool.{Bool, false}
 use mathlib.Core.List.{List}
 use lib.Dec.{T}
 use borrow.Author.Tests.{ltb-false, leb-false, eqb-true, not-false}
+use Rattle.std.specs.Prelude.{Ok}
 use Rattle.fields.specs.Deciding.{first_broken}
 use Rattle.fields.specs.Fields.{line_of, fields}
 use Rattle.sheet.specs.Judging.{head_rules, own_rules, field_rules}
@@ -18,12 +19,12 @@ use Rattle.fields.specs.declared.values.Mode.{Mode}
 use Rattle.fields.specs.declared.values.Row.{Row}
 use Rattle.fields.specs.declared.values.Task.{Task}
 use Rattle.fields.specs.declared.values.Tally.{Tally}
-use Rattle.fields.proofs.Deciding.{Kept, numbered, all_kept, neither, both_kept, both_numbered}
+use Rattle.fields.proofs.Deciding.{Kept, of_file, all_kept, neither, both_kept, both_of_file}
 
 module _ (tag last size count : ℕ) (unlike : Bool) where
-  pub common_numbered : T (numbered (common_rules tag last size unlike count))
+  common_of_file : T (of_file (common_rules tag last size unlike count))
   unfolding common_rules
-  common_numbered = tt
+  common_of_file = tt
 
   -- the field is in order, its length is right, and there is room for one more
   pub common_says : Kept (common_rules tag last size unlike count)
@@ -31,17 +32,17 @@ module _ (tag last size count : ℕ) (unlike : Bool) where
   unfolding common_rules full
   common_says k = (k.0, k.1.0, k.1.1.0, leb-false _ _ k.1.1.1.0)
 
-pub mode_numbered_lem : (tally : Tally) (mode : Mode) (size : ℕ) → T (numbered (mode_rules tally mode size))
+mode_of_file : (tally : Tally) (mode : Mode) (size : ℕ) → T (of_file (mode_rules tally mode size))
 unfolding mode_rules
-mode_numbered_lem tally mode size = tt
+mode_of_file tally mode size = tt
 
-pub row_numbered_lem : (bytes : List ℕ) (tally : Tally) (row : Row) → T (numbered (row_gap_rules bytes tally row))
+row_of_file : (bytes : List ℕ) (tally : Tally) (row : Row) → T (of_file (row_gap_rules bytes tally row))
 unfolding row_rules row_gap_rules
-row_numbered_lem bytes tally row = tt
+row_of_file bytes tally row = tt
 
-pub task_numbered_lem : (task : Task) → T (numbered (task_rules task))
+task_of_file : (task : Task) → T (of_file (task_rules task))
 unfolding task_rules
-task_numbered_lem task = tt
+task_of_file task = tt
 
 pub long_enough : (tag size : ℕ) → wrong_length tag size ≡ false → (line_of tag).shortest ≤ size
 unfolding wrong_length
@@ -63,39 +64,39 @@ abbrev pub RowFits : List ℕ → Tally → ℕ → ℕ → Type 0
 RowFits bytes tally start size = (head_size ≤ size) × (size ≡ head_size + gap_size * follower_count (row_at bytes start).followers) × (tally.rows < row_limit)
 
 module _ (bytes : List ℕ) (tally : Tally) (start size : ℕ) where
-  pub head_numbered : (kind : Kind) → T (numbered (head_rules bytes tally kind start size))
+  head_of_file : (kind : Kind) → T (of_file (head_rules bytes tally kind start size))
   unfolding head_rules
-  head_numbered RefusedTag = tt
-  head_numbered LabelField = common_numbered _ _ _ _ _
-  head_numbered ModeField = common_numbered _ _ _ _ _
-  head_numbered RowField = common_numbered _ _ _ _ _
-  head_numbered TaskField = common_numbered _ _ _ _ _
-  head_numbered EndField = common_numbered _ _ _ _ _
-  head_numbered SkippedField = tt
+  head_of_file RefusedTag = tt
+  head_of_file LabelField = common_of_file _ _ _ _ _
+  head_of_file ModeField = common_of_file _ _ _ _ _
+  head_of_file RowField = common_of_file _ _ _ _ _
+  head_of_file TaskField = common_of_file _ _ _ _ _
+  head_of_file EndField = common_of_file _ _ _ _ _
+  head_of_file SkippedField = tt
 
-  own_numbered : (kind : Kind) → T (numbered (own_rules bytes tally kind start size))
+  own_of_file : (kind : Kind) → T (of_file (own_rules bytes tally kind start size))
   unfolding own_rules text_rules
-  own_numbered RefusedTag = tt
-  own_numbered LabelField = tt
-  own_numbered ModeField = mode_numbered_lem _ _ _
-  own_numbered RowField = row_numbered_lem _ _ _
-  own_numbered TaskField = task_numbered_lem _
-  own_numbered EndField = tt
-  own_numbered SkippedField = tt
+  own_of_file RefusedTag = tt
+  own_of_file LabelField = tt
+  own_of_file ModeField = mode_of_file _ _ _
+  own_of_file RowField = row_of_file _ _ _
+  own_of_file TaskField = task_of_file _
+  own_of_file EndField = tt
+  own_of_file SkippedField = tt
 
-  pub field_numbered : (kind : Kind) → T (numbered (field_rules bytes tally kind start size))
-  field_numbered kind = both_numbered (head_rules bytes tally kind start size) (own_rules bytes tally kind start size) (head_numbered kind) (own_numbered kind)
+  pub field_of_file : (kind : Kind) → T (of_file (field_rules bytes tally kind start size))
+  field_of_file kind = both_of_file (head_rules bytes tally kind start size) (own_rules bytes tally kind start size) (head_of_file kind) (own_of_file kind)
 
   module _ (kind : Kind) where
-    pub head_kept : first_broken (head_rules bytes tally kind start size) ≡ 0 → Kept (head_rules bytes tally kind start size)
-    head_kept e = all_kept (head_rules bytes tally kind start size) (head_numbered kind) e
+    pub head_kept : first_broken (head_rules bytes tally kind start size) ≡ Ok tt → Kept (head_rules bytes tally kind start size)
+    head_kept e = all_kept (head_rules bytes tally kind start size) e
 
     pub field_kept : Kept (field_rules bytes tally kind start size) → Kept (head_rules bytes tally kind start size) × Kept (own_rules bytes tally kind start size)
     field_kept k = both_kept (head_rules bytes tally kind start size) (own_rules bytes tally kind start size) k
 
     -- where no rule is broken, none of the first is
-    pub first_kept : first_broken (field_rules bytes tally kind start size) ≡ 0 → Kept (head_rules bytes tally kind start size)
-    first_kept e = (field_kept (all_kept (field_rules bytes tally kind start size) (field_numbered kind) e)).0
+    pub first_kept : first_broken (field_rules bytes tally kind start size) ≡ Ok tt → Kept (head_rules bytes tally kind start size)
+    first_kept e = (field_kept (all_kept (field_rules bytes tally kind start size) e)).0
 
     -- a mode that breaks none of its first rules has its numbers, and there is room for one more
     pub mode_fits : kind ≡ ModeField → Kept (head_rules bytes tally kind start size) → (4 ≤ size) × (tally.modes < mode_limit)

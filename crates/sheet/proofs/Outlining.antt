@@ -2,29 +2,35 @@
 use Prim.Native.Nat.{ℕ, ◌+◌, ◌≤◌, ◌<◌}
 use native.Mathlib.Omega.{arith}
 use native.Mathlib.Nat.{eq-or-lt_of_le}
-use mathlib.Core.Path.{◌≡◌, refl, sym}
+use mathlib.Core.Path.{◌≡◌, ◌∙◌, refl, sym}
 use mathlib.Core.Logic.{⊎_elim}
-use mathlib.Core.Bool.{true, true≢false}
+use mathlib.Core.Bool.{Bool, true, true≢false}
 use mathlib.Core.List.{List, [], ◌∷◌}
 use lib.Dec.{ltb}
 use lib.ListN.{length, get_or, set, length-set}
 use lib.Seq.{get_or-set_same, get_or-set_other}
+use Rattle.std.specs.Prelude.{Result}
 use Rattle.fields.specs.Deciding.{◌when◌, pick}
 use Rattle.fields.specs.Limits.{row_limit, head_size}
 use Rattle.fields.specs.Reading.{mode_at, row_at, task_at}
+use Rattle.fields.specs.Refusals.{refused}
 use Rattle.fields.specs.Values.{empty_sheet}
+use denote.Enum.Bare.{sameb}
+use Rattle.fields.specs.contracts.table.Kind.{the_type}
 use Rattle.fields.specs.declared.table.Kind.{Kind}
 use Rattle.fields.specs.declared.table.Kind.TheVariants.{RefusedTag, LabelField, ModeField, RowField, TaskField, EndField, SkippedField}
+use Rattle.fields.specs.declared.refusal.Reason.{Reason}
+use Rattle.fields.specs.declared.refusal.Reason.TheVariants.{BehindTheEnd, UnknownFollower}
+use Rattle.fields.specs.declared.refusal.Refusal.{Refusal}
 use Rattle.fields.specs.declared.values.Row.{Row}
 use Rattle.fields.specs.declared.values.Sheet.{Sheet}
-use Rattle.fields.proofs.Deciding.{Kept}
+use Rattle.fields.proofs.Deciding.{Kept, told}
 use Rattle.rules.specs.Rules.{unknown_follower}
 use Rattle.sheet.specs.Judging.{refusal, head_rules, with_field, end_judged, judged}
 use Rattle.sheet.specs.Outline.{sheet_from, outline_of, head_with, is_row, places_with, PlacesIn, RowsFrom, RowsAt, Outlined}
 use Rattle.sheet.specs.Values.{with_label, with_mode, with_row, with_task}
 use Rattle.sheet.specs.declared.Head.{Head}
-use Rattle.sheet.specs.declared.Judged.{Judged}
-use Rattle.sheet.specs.declared.Outline.{Outline}
+use Rattle.sheet.specs.Answer.{Judged}
 use Rattle.sheet.proofs.Keeping.{checked_keeps}
 use Rattle.sheet.proofs.Numbered.{row_fits}
 use Rattle.sheet.proofs.RowPlaces.{rows_none, rows_more}
@@ -55,6 +61,19 @@ is_row_lem RowField e = refl
 is_row_lem TaskField e = absurd (true≢false (sym e))
 is_row_lem EndField e = absurd (true≢false (sym e))
 is_row_lem SkippedField e = absurd (true≢false (sym e))
+
+row_kind : (kind : Kind) → sameb the_type kind RowField ≡ is_row kind
+row_kind RefusedTag = refl
+row_kind LabelField = refl
+row_kind ModeField = refl
+row_kind RowField = refl
+row_kind TaskField = refl
+row_kind EndField = refl
+row_kind SkippedField = refl
+
+-- what `==` answered of a kind and the row's
+pub told_row : (r : Bool) (kind : Kind) (v : Bool) → r ≡ sameb the_type kind RowField → r ≡ v → is_row kind ≡ v
+told_row r kind v e f = sym (row_kind kind) ∙ told r (sameb the_type kind RowField) v e f
 
 module _ (bytes places : List ℕ) where
   -- a sheet's rows are at the places where its count of them is and its array has them
@@ -122,14 +141,14 @@ places_length TaskField places number start = refl
 places_length EndField places number start = refl
 places_length SkippedField places number start = refl
 
-module _ (bytes places : List ℕ) (outline : Outline) where
+module _ (bytes places : List ℕ) (outline : Result Head Refusal) where
   outlined_by : (one : Judged) → judged bytes ≡ one → outline ≡ outline_of one → RowsAt bytes one.sheet places → Outlined bytes places outline
-  outlined_by one j o rows = record { answer = rw (o, j) refl; head = rw (o, j) refl; rows = rw j rows }
+  outlined_by one j o rows = record { answer = rw (o, j) refl; rows = rw j rows }
 
   -- a refused sheet has no rows
-  pub outlined_refused : (n place : ℕ) → judged bytes ≡ refusal n place → outline ≡ outline_of (refusal n place) → Outlined bytes places outline
+  pub outlined_refused : (reason : Reason) (place : ℕ) → judged bytes ≡ refusal reason place → outline ≡ refused reason place → Outlined bytes places outline
   unfolding refusal
-  outlined_refused n place j o = outlined_by (refusal n place) j o (stand_none bytes places)
+  outlined_refused reason place j o = outlined_by (refusal reason place) j o (stand_none bytes places)
 
   pub outlined_end : (sheet : Sheet) (at next : ℕ) → judged bytes ≡ end_judged bytes sheet at next → outline ≡ outline_of (end_judged bytes sheet at next) → RowsAt bytes sheet places
       → Outlined bytes places outline
@@ -137,6 +156,6 @@ module _ (bytes places : List ℕ) (outline : Outline) where
   outlined_end sheet at next j o rows =
       let Q : Judged → Type 0 = λ one. RowsAt bytes one.sheet places in
       outlined_by (end_judged bytes sheet at next) j o
-      (checked_keeps Q at (λ n r. stand_none bytes places) (9 when (unknown_follower sheet.rows sheet.tally.rows) ∷ []) _ tt
-      (λ followers. checked_keeps Q next (λ n r. stand_none bytes places) (4 when (ltb next (length bytes)) ∷ []) _ tt
+      (checked_keeps Q at (λ reason r. stand_none bytes places) (UnknownFollower when (unknown_follower sheet.rows sheet.tally.rows) ∷ []) _ tt
+      (λ followers. checked_keeps Q next (λ reason r. stand_none bytes places) (BehindTheEnd when (ltb next (length bytes)) ∷ []) _ tt
       (λ last. rows)))

@@ -1,3 +1,4 @@
+pub mod Answer
 pub mod Content
 pub mod Values
 pub mod Judging

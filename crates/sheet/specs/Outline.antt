@@ -1,5 +1,5 @@
 -- What is kept of a sheet while it is judged: all but its rows, and the places of these in the file.
-use Rattle.std.specs.Prelude.{ℕ, ◌+◌, ◌≤◌, ◌<◌, ◌≡◌, Bool, true, false, List, [], length, get_or, set}
+use Rattle.std.specs.Prelude.{ℕ, ◌+◌, ◌≤◌, ◌<◌, ◌≡◌, Bool, true, false, List, [], length, get_or, set, Result}
 use Rattle.fields.specs.Deciding.{pick}
 use Rattle.fields.specs.Limits.{row_limit, head_size}
 use Rattle.fields.specs.Reading.{row_at}
@@ -12,8 +12,8 @@ use Rattle.sheet.specs.Judging.{with_field, judged}
 use Rattle.sheet.specs.Meaning.{row_of}
 use Rattle.sheet.specs.Ready.{Ready}
 use Rattle.sheet.specs.declared.Head.{Head}
-use Rattle.sheet.specs.declared.Judged.{Judged}
-use Rattle.sheet.specs.declared.Outline.{Outline}
+use Rattle.sheet.specs.Answer.{Judged, answered}
+use Rattle.fields.specs.declared.refusal.Refusal.{Refusal}
 
 -- all of a sheet but its rows
 abbrev pub head_of : Sheet → Head
@@ -27,10 +27,9 @@ pub record RowsAt (bytes : List ℕ) (sheet : Sheet) (places : List ℕ) : Type 
   pub past : (k : ℕ) → sheet.tally.rows ≤ k → row_of sheet k ≡ no_row
   pub room : length sheet.rows ≡ row_limit
 
--- the bytes are judged, with their rows at some places
-pub record Outlined (bytes places : List ℕ) (outline : Outline) : Type 0 where
-  pub answer : outline.answer ≡ (judged bytes).answer
-  pub head : outline.head ≡ head_of (judged bytes).sheet
+-- the bytes are judged, with their rows at some places: the head of an accepted sheet, or the refusal
+pub record Outlined (bytes places : List ℕ) (outline : Result Head Refusal) : Type 0 where
+  pub answer : outline ≡ answered (judged bytes).answer (head_of (judged bytes).sheet)
   pub rows : RowsAt bytes (judged bytes).sheet places
 
 -- a sheet of a head and rows
@@ -38,8 +37,8 @@ abbrev pub sheet_from : Head → List Row → Sheet
 sheet_from head rows = record { label = head.label; tally = head.tally; modes = head.modes; rows = rows; tasks = head.tasks }
 
 -- a judged sheet without its rows
-abbrev pub outline_of : Judged → Outline
-outline_of one = record { answer = one.answer; head = head_of one.sheet }
+abbrev pub outline_of : Judged → Result Head Refusal
+outline_of one = answered one.answer (head_of one.sheet)
 
 -- the head with what a field adds to it, which does not hang on the rows: here there are none
 abbrev pub head_with : List ℕ → Head → Kind → ℕ → ℕ → Head

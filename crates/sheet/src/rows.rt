@@ -20,11 +20,8 @@ pub(crate) fn rows_at(
     ensures { RowsFrom bytes.now places.now count result }
 {
     let mut rows = [Row::NONE; Sheet::ROWS];
-    let mut filled: usize = 0;
-    while filled < count {
-        let row = row_at(bytes, places[filled]);
-        rows[filled] = row;
-        filled += 1;
+    for number in 0..count {
+        rows[number] = row_at(bytes, places[number]);
     }
     rows
 }
@@ -34,15 +31,7 @@ pub(crate) fn unknown_follower(bytes: &[u8], places: &[usize; Sheet::ROWS], coun
     requires { PlacesIn bytes.now places.now count }
     ensures { (rows : List Row) → RowsFrom bytes.now places.now count rows → result ≡ unknown_follower rows count }
 {
-    let mut number: usize = 0;
-    while number < count {
-        let row = row_at(bytes, places[number]);
-        if unknown_in(row.followers, count) {
-            return true;
-        }
-        number += 1;
-    }
-    false
+    (0..count).any(|number| unknown_in(row_at(bytes, places[number]).followers, count))
 }
 
 // The row at a place that is known to be inside the file. The tables read it in their loops, so it takes no test.
@@ -50,14 +39,12 @@ pub fn row_at(bytes: &[u8], place: usize) -> Row
     requires { place + head_size ≤ length bytes.now }
     ensures { result ≡ row_at bytes.now place }
 {
-    let speed = Rpm(word_inside(bytes, place));
-    let deadline = Ticks(word_inside(bytes, place + 2));
     let set = place + 4;
     let high = word_inside(bytes, set) as u64;
     let low = word_inside(bytes, set + 2) as u64;
     Row {
-        speed: speed,
-        deadline: deadline,
+        speed: Rpm(word_inside(bytes, place)),
+        deadline: Ticks(word_inside(bytes, place + 2)),
         followers: high * 65536 + low,
         gaps: place + Sheet::HEAD,
     }

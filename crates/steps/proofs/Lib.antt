@@ -1,3 +1,2 @@
-pub mod Horizons
 pub mod Rising
 pub mod Releases

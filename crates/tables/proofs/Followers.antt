@@ -1,24 +1,33 @@
--- The followers of a row: their gaps, and a loop over them that clears the lowest row of what is left of the set, with a place in the file that moves one gap on.
-use mathlib.Core.Path.{◌≡◌, sym, ap}
+-- The followers of a row: their gaps, and a walk over them.
+use mathlib.Core.Path.{◌≡◌, refl, sym, ap, ◌∙◌}
 use mathlib.Core.List.{List}
-use Prim.Native.Nat.{ℕ, ◌+◌, ◌-◌, ◌*◌, ◌^◌, ◌<◌}
-use native.Mathlib.Nat.{add-zero}
+use mathlib.Core.Logic.{⊎_elim}
+use Prim.Native.Nat.{ℕ, suc, ◌+◌, ◌-◌, ◌*◌, ◌/◌, ◌%◌, ◌^◌, ◌≤◌, ◌<◌}
+use native.Mathlib.Nat.{add-zero, zero-div, div-add-mod', mod-lt}
+use native.Mathlib.Numerals.{add-one}
 use native.Mathlib.Omega.{arith}
-use lib.Bits.{bit_and}
-use lib.Count.{count_trailing_zeros}
+use lib.Bits.{bit_and, and_le_l}
+use lib.Count.{count_trailing_zeros, ones, ones_cat}
 use lib.ListN.{length}
+use lib.Pow.{pow_pos, shl-shr}
+use Rattle.std.proofs.lemmas.Nat.Bits.{bit_at_and}
 use borrow.Author.Tests.{eq-eqb, ne_eqb}
 use Rattle.sets.specs.Sets.{bit, below, fold_below}
-use Rattle.sets.proofs.Bits.{bit_within}
-use Rattle.sets.proofs.Counts.{below_mono, below_lt}
-use Rattle.sets.proofs.Clearing.{Left, left_start, left_same, left_bit, left_next, left_below, left_below_next, left_done}
+use Rattle.sets.proofs.Bits.{bit_within, shr_zero, all_below}
+use Rattle.sets.proofs.Counts.{below_mono, below_lt, below_step, ones_all, ones_below}
+use Rattle.sets.proofs.Zeros.{tz_set, and_pred}
+use Rattle.sets.proofs.Clearing.{Left, left_start, left_bit, left_next, left_below, left_from, left_below_next, left_done}
+use Rattle.meaning.proofs.Tests.{lt_or}
 use Rattle.fields.specs.Deciding.{pick}
 use Rattle.fields.specs.Limits.{gap_size}
 use Rattle.sheet.specs.Meaning.{gap_of}
 use Rattle.sheet.specs.Proper.{ProperRow}
 use Rattle.fields.specs.Reading.{word_at}
 use Rattle.fields.specs.declared.values.Row.{Row}
+use Rattle.fields.specs.declared.units.Ticks.{Ticks}
 use Rattle.tables.specs.Followers.{gap_to, Followed}
+use Rattle.tables.specs.Walk.{Taken}
+use Rattle.tables.specs.declared.walk.Followers.{Followers}
 
 module _ (bytes : List ℕ) (row : Row) where
   -- the gap to a follower is the one that stands for it in the file
@@ -31,71 +40,130 @@ module _ (bytes : List ℕ) (row : Row) where
   unfolding pick
   gap_of_other j e = rw (ne_eqb (bit row.followers j) 1 (λ h. omega (arith, e, h)))
 
-module _ (bytes : List ℕ) (n : ℕ) (row : Row) (proper : ProperRow bytes n row) where
-  pub row_followed : Followed bytes n row.followers row.gaps
-  row_followed = record { exist = proper.followers_exist; inside = proper.gaps_inside }
+module _ (bytes : List ℕ) (n : ℕ) (row : Row) (proper : ProperRow bytes n row) (fits : row.followers < 2 ^ 64) (j : ℕ) (e : bit row.followers j ≡ 1) where
+  counted : below row.followers j < below row.followers 64
+  counted = below_lt 64 row.followers j e (bit_within 64 row.followers j fits e)
 
-  module _ (fits : row.followers < 2 ^ 64) (j : ℕ) (e : bit row.followers j ≡ 1) where
-    counted : below row.followers j < below row.followers 64
-    counted = below_lt 64 row.followers j e (bit_within 64 row.followers j fits e)
-
-    -- the gap to a follower is not 0
-    pub gap_positive : 0 < gap_to bytes row.followers row.gaps j
-    gap_positive = omega (arith, proper.deadline.0, proper.gap_least (below row.followers j) counted)
-
-    -- and stands in the file
-    pub gap_inside : row.gaps + gap_size * below row.followers j + 1 < length bytes
-    gap_inside = omega (arith, proper.gaps_inside, counted)
-
--- `rest` is left of the set, `acc` is what f made of the rows before, and the gap of the next row stands at `place`
-pub record Passing {ℓ} {A : Type ℓ} (f : ℕ → A → A) (a : A) (followers first rest place : ℕ) (acc : A) : Type ℓ where
-  pub left : Left f a 64 followers rest acc
-  pub next_gap : place ≡ first + gap_size * below followers left.from
-
--- at first all of the set is left
-pub passing_start {ℓ} : {A : Type ℓ} (f : ℕ → A → A) (a : A) (followers first : ℕ) → Passing f a followers first followers first a
-unfolding below left_start
-passing_start f a followers first = record { left = left_start f a 64 followers; next_gap = sym (add-zero first) }
-
--- when nothing is left all rows of the set are done
-pub passing_done {ℓ} : {A : Type ℓ} (f : ℕ → A → A) (a : A) (followers first rest place : ℕ) (acc : A) → Passing f a followers first rest place acc → rest ≡ 0
-    → acc ≡ fold_below f a followers 64
-passing_done f a followers first rest place acc p e = left_done f a 64 followers rest acc p.left e
-
--- A turn, while something is left.
-module _ {ℓ} {A : Type ℓ} (f : ℕ → A → A) (a : A) (followers first rest place : ℕ) (acc : A) (fits : followers < 2 ^ 64)
-    (p : Passing f a followers first rest place acc) (some : rest ≡ 0 → ⊥) where
-  -- its row is in the set
-  pub passing_row : bit followers (count_trailing_zeros 64 rest) ≡ 1
-  passing_row = left_bit f a 64 followers rest acc fits p.left some
-
-  -- the gap to its row is the one at the place
-  pub passing_gap : (bytes : List ℕ) → word_at bytes place ≡ gap_to bytes followers first (count_trailing_zeros 64 rest)
-  passing_gap bytes =
-      let same : place ≡ first + gap_size * below followers (count_trailing_zeros 64 rest) =
-      omega (arith, p.next_gap, left_below f a 64 followers rest acc fits p.left some) in
-      ap (word_at bytes) same
+  -- the gap to a follower is not 0
+  pub gap_positive : 0 < gap_to bytes row.followers row.gaps j
+  gap_positive = omega (arith, proper.deadline.0, proper.gap_least (below row.followers j) counted)
 
   -- and stands in the file
-  pub passing_inside : (bytes : List ℕ) (n : ℕ) → Followed bytes n followers first → place + 1 < length bytes
-  passing_inside bytes n followed =
-      let next = left_next f a 64 followers rest acc fits p.left some in
+  pub gap_inside : row.gaps + gap_size * below row.followers j + 1 < length bytes
+  gap_inside = omega (arith, proper.gaps_inside, counted)
+
+-- While something is left of followers of whom the gaps stand in the file.
+module _ (bytes : List ℕ) (n rest place : ℕ) (followed : Followed bytes n rest place) (fits : rest < 2 ^ 64) (some : rest ≡ 0 → ⊥) where
+  lowest : ℕ
+  lowest = count_trailing_zeros 64 rest
+
+  lowest_in : bit rest lowest ≡ 1
+  unfolding lowest
+  lowest_in = tz_set 64 rest (omega (arith, some)) fits
+
+  -- the gap to the next stands there
+  pub followed_inside : place + 1 < length bytes
+  followed_inside = omega (arith, followed.inside, below_lt 64 rest lowest lowest_in (bit_within 64 rest lowest fits lowest_in))
+
+  -- with the lowest bit cleared one row less is left
+  one_less : below (bit_and rest (rest - 1)) 64 + 1 ≤ below rest 64
+  unfolding lowest ones
+  one_less =
+      let above : ℕ = rest / 2 ^ suc lowest in
+      let cleared : bit_and rest (rest - 1) ≡ above * 2 ^ suc lowest + 0 = and_pred 64 rest (omega (arith, some)) fits ∙ sym (add-zero (above * 2 ^ suc lowest)) in
       omega (
         arith,
-        p.next_gap,
-        left_below_next f a 64 followers rest acc fits p.left some,
-        below_mono followers next.from 64 next.within,
-        followed.inside,
+        ones_all 64 (bit_and rest (rest - 1)) (omega (arith, fits, and_le_l rest (rest - 1))),
+        ap ones cleared ∙ ones_cat (suc lowest) above 0 (pow_pos (suc lowest)),
+        ones_all 64 rest fits,
+        ap ones (sym (div-add-mod' rest (2 ^ suc lowest))) ∙ ones_cat (suc lowest) above (rest % 2 ^ suc lowest) (mod-lt rest (pow_pos (suc lowest))),
+        ones_below rest (suc lowest),
+        ap (below rest) (add-one lowest),
+        below_step rest lowest,
+        lowest_in,
       )
 
-  -- with its row done, and the place two bytes on, the next turn begins
-  pub passing_next : (after : ℕ) (other : A) → after ≡ place + gap_size → other ≡ f (count_trailing_zeros 64 rest) acc
-      → Passing f a followers first (bit_and rest (rest - 1)) after other
-  passing_next after other two e =
-      let next = left_next f a 64 followers rest acc fits p.left some in
-      let same = left_same f a 64 followers (bit_and rest (rest - 1)) (f (count_trailing_zeros 64 rest) acc) other e next in
-      record {
-        left = same.0;
-        next_gap =
-            omega (arith, two, p.next_gap, left_below_next f a 64 followers rest acc fits p.left some, ap (below followers) same.1);
-      }
+  -- and the same holds of what is left
+  pub followed_next : Followed bytes n (bit_and rest (rest - 1)) (place + gap_size)
+  followed_next = record {
+    exist = λ j e. followed.exist j (omega (arith, e, bit_at_and rest (rest - 1) j));
+    inside = omega (arith, followed.inside, one_less);
+  }
+
+-- nothing is left of a set that is shifted to nothing
+shr_none : (s j : ℕ) → s / 2 ^ j * 2 ^ j ≡ 0 → s / 2 ^ j ≡ 0
+shr_none s j e = sym (shl-shr (s / 2 ^ j) j) ∙ ap (λ (x : ℕ). x / 2 ^ j) e ∙ zero-div (2 ^ j)
+
+-- a walk over followers has come from `start` to `now`, and `acc` is what f made of the rows that it gave
+pub record Walked {ℓ} {A : Type ℓ} (f : ℕ → A → A) (a : A) (start now : Followers) (acc : A) : Type ℓ where
+  pub fits : start.rest < 2 ^ 64
+  pub left : Left f a 64 start.rest now.rest acc
+  pub next_gap : now.place ≡ start.place + gap_size * below start.rest left.from
+  pub same_file : now.bytes.now ≡ start.bytes.now
+
+-- at first all of the set is left
+pub walked_none {ℓ} : {A : Type ℓ} (f : ℕ → A → A) (a : A) (start : Followers) → start.rest < 2 ^ 64 → Walked f a start start a
+unfolding below left_start
+walked_none f a start fits = record { fits = fits; left = left_start f a 64 start.rest; next_gap = sym (add-zero start.place); same_file = refl }
+
+-- then no row is passed
+pub walked_fresh {ℓ} : {A : Type ℓ} (f : ℕ → A → A) (a : A) (start : Followers) (fits : start.rest < 2 ^ 64) → (walked_none f a start fits).left.from ≡ 0
+unfolding walked_none left_start
+walked_fresh f a start fits = refl
+
+module _ {ℓ} {A : Type ℓ} {f : ℕ → A → A} {a : A} {start now : Followers} {acc : A} (walked : Walked f a start now acc) where
+  -- when nothing is left all rows of the set are done
+  pub walked_all : now.rest ≡ 0 → acc ≡ fold_below f a start.rest 64
+  walked_all e = left_done f a 64 start.rest now.rest acc walked.left e
+
+  -- and all of them are passed
+  pub walked_past : now.rest ≡ 0 → (i : ℕ) → bit start.rest i ≡ 1 → i < walked.left.from
+  walked_past e i b =
+      ⊎_elim
+      (λ l. l)
+      (λ l. omega (arith, b, (all_below walked.left.from start.rest).0 ((shr_zero walked.left.from start.rest).0 (shr_none start.rest walked.left.from (sym walked.left.is ∙ e))) i l))
+      (lt_or i walked.left.from)
+
+  -- A turn.
+  module _ {after : Followers} {row : ℕ} {gap : Ticks} (taken : Taken now after row gap) where
+    -- its row is in the set
+    pub walked_bit : bit start.rest row ≡ 1
+    walked_bit = rw taken.lowest (left_bit f a 64 start.rest now.rest acc walked.fits walked.left taken.some)
+
+    -- and one of the rows
+    pub walked_row : row < start.count
+    walked_row = start.followed.exist row walked_bit
+
+    -- its gap is the one to the row
+    pub walked_gap : gap.0 ≡ gap_to start.bytes.now start.rest start.place row
+    walked_gap =
+        let place : now.place ≡ start.place + gap_size * below start.rest row =
+        omega (arith, walked.next_gap, left_below f a 64 start.rest now.rest acc walked.fits walked.left taken.some, ap (below start.rest) taken.lowest) in
+        ap (λ (t : Ticks). t.0) taken.its_gap ∙ ap (λ (bytes : List ℕ). word_at bytes now.place) walked.same_file ∙ ap (word_at start.bytes.now) place
+
+    -- with its row done the next turn begins
+    pub walked_more : {other : A} → other ≡ f row acc → Walked f a start after other
+    walked_more e =
+        let next = left_next f a 64 start.rest now.rest acc walked.fits walked.left taken.some in
+        record {
+          fits = walked.fits;
+          left = record {
+            from = next.from;
+            within = next.within;
+            is = taken.cleared ∙ next.is;
+            got = e ∙ ap (λ (j : ℕ). f j acc) taken.lowest ∙ next.got;
+          };
+          next_gap = omega (arith, taken.moved, walked.next_gap, left_below_next f a 64 start.rest now.rest acc walked.fits walked.left taken.some);
+          same_file = taken.same_file ∙ walked.same_file;
+        }
+
+    -- a row of the set below the one of the turn is passed before it
+    pub walked_before : (i : ℕ) → bit start.rest i ≡ 1 → i < row → i < walked.left.from
+    walked_before i b l =
+        let same : below start.rest row ≡ below start.rest walked.left.from = ap (below start.rest) taken.lowest ∙ left_below f a 64 start.rest now.rest acc walked.fits walked.left taken.some in
+        ⊎_elim (λ h. h) (λ h. omega (arith, same, below_mono start.rest walked.left.from i h, below_lt row start.rest i b l)) (lt_or i walked.left.from)
+
+    -- and the turn passes its own
+    pub walked_behind : {other : A} (e : other ≡ f row acc) → (walked_more e).left.from ≡ suc row
+    unfolding walked_more
+    walked_behind e = left_from f a 64 start.rest now.rest acc walked.fits walked.left taken.some ∙ ap suc (sym taken.lowest)

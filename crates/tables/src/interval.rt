@@ -1,16 +1,17 @@
 // The table by interval: its line s has, for each row, the most work of a sequence from that row with end time at most s.
 ghost use Rattle.std.specs.Prelude.{◌≡◌, ◌+◌, ◌*◌, ◌^◌, ◌≤◌, ◌<◌, max, length};
 ghost use Rattle.meaning.specs.Computed.{cell_at, max_below};
-ghost use Rattle.sheet.specs.Proper.{ProperRow};
 ghost use Rattle.fields.specs.Reading.{ticks_at};
 ghost use Rattle.tables.specs.Adding.{added_at, most_added, cell_of};
-ghost use Rattle.tables.specs.Followers.{Followed};
 ghost use Rattle.sheet.specs.Outline.{Handed};
 ghost use Rattle.tables.specs.Laid.{Laid};
+ghost use Rattle.tables.specs.Seen.{row_in, work_in};
 
+use crate::rows::Rows;
+use crate::walk::Followers;
 use fields::reader::word_inside;
 use fields::units::Ticks;
-use fields::values::{Row, Sheet};
+use fields::values::Sheet;
 use modes::job_length;
 use sheet::Head;
 use sheet::rows::row_at;
@@ -22,16 +23,18 @@ pub fn demand_of(cells: &[u32], n: usize, t: usize) -> u32
 {
     let line = t * n;
     let mut most: u32 = 0;
-    let mut k: usize = 0;
-    while k < n {
-        most = larger(most, cells[line + k]);
-        k += 1;
+    for cell in &cells[line..line + n] {
+        most = most.max(*cell);
     }
     most
 }
 
-// The job length of each row, calculated once for all that is asked of a sheet.
-pub fn job_lengths(bytes: &[u8], head: Head, places: &[usize; Sheet::ROWS]) -> [u32; Sheet::ROWS]
+// The job length of each row.
+pub(crate) fn job_lengths(
+    bytes: &[u8],
+    head: Head,
+    places: &[usize; Sheet::ROWS],
+) -> [u32; Sheet::ROWS]
     requires { Handed bytes.now head places.now }
     ensures { Laid bytes.now places.now result head.tally.rows }
 {
@@ -43,43 +46,38 @@ pub fn job_lengths(bytes: &[u8], head: Head, places: &[usize; Sheet::ROWS]) -> [
     if tally.modes == 0 {
         return lengths;
     }
-    let mut k: usize = 0;
-    while k < n {
-        let row = row_at(bytes, places[k]);
-        lengths[k] = job_length(modes, tally.modes, row.speed).0 as u32;
-        k += 1;
+    for number in 0..n {
+        let row = row_at(bytes, places[number]);
+        lengths[number] = job_length(modes, tally.modes, row.speed).0 as u32;
     }
     lengths
 }
 
-// The cell of a row with a job length in the line s, from the lines before.
-pub fn cell(bytes: &[u8], cells: &[u32], row: Row, work: u32, n: usize, s: usize) -> u32
-    requires proper_row { ProperRow bytes.now n row }
-    requires s_in_bounds { n * (s + 1) ≤ length cells.now }
-    requires s_bound { cell_of bytes.now cells.now row work n s < 2 ^ 32 }
-    ensures { result ≡ cell_of bytes.now cells.now row work n s }
+// The cell of the row of a number in the line s, from the lines before.
+pub fn cell(rows: &Rows, cells: &[u32], number: usize, s: usize) -> u32
+    requires counted { number < rows.now.count }
+    requires room { rows.now.count * (s + 1) ≤ length cells.now }
+    requires fits { cell_of rows.now.bytes.now cells.now (row_in rows.now number) (work_in rows.now number) rows.now.count s < 2 ^ 32 }
+    ensures { result ≡ cell_of rows.now.bytes.now cells.now (row_in rows.now number) (work_in rows.now number) rows.now.count s }
 {
+    let row = rows.row(number);
     if s < row.deadline.0 as usize {
         return 0;
     }
-    work + most_added(bytes, cells, row.followers, row.gaps, n, s)
+    let followers = Followers::new(rows.bytes, rows.count, row);
+    rows.lengths[number] + most_added(followers, cells, s)
 }
 
-// The most that a follower adds. Each turn clears the lowest row of what is left of the set, and the gap of the next one stands two bytes on.
-fn most_added(bytes: &[u8], cells: &[u32], followers: u64, gaps: usize, n: usize, s: usize) -> u32
-    requires followed { Followed bytes.now n followers gaps }
-    requires s_in_bounds { n * (s + 1) ≤ length cells.now }
-    ensures { result ≡ most_added bytes.now cells.now followers gaps n s }
+// The most that a follower adds.
+fn most_added(followers: Followers, cells: &[u32], s: usize) -> u32
+    requires room { followers.count * (s + 1) ≤ length cells.now }
+    ensures { result ≡ most_added followers.entry.bytes.now cells.now followers.entry.rest followers.entry.place followers.entry.count s }
 {
-    let mut rest = followers;
-    let mut place = gaps;
+    let n = followers.count;
+    let mut left = followers;
     let mut most: u32 = 0;
-    while rest != 0 {
-        let row = u64::trailing_zeros(rest) as usize;
-        let gap = gap_at(bytes, place);
-        most = larger(most, added(cells, n, s, gap, row));
-        rest = rest & (rest - 1);
-        place += Sheet::GAP;
+    while let Some((row, gap)) = left.next() {
+        most = most.max(added(cells, n, s, gap, row));
     }
     most
 }
@@ -87,7 +85,7 @@ fn most_added(bytes: &[u8], cells: &[u32], followers: u64, gaps: usize, n: usize
 // What a row that follows after a gap adds.
 pub fn added(cells: &[u32], n: usize, s: usize, gap: Ticks, row: usize) -> u32
     requires row_lt_n { row < n }
-    requires s_in_bounds { n * (s + 1) ≤ length cells.now }
+    requires room { n * (s + 1) ≤ length cells.now }
     ensures { result ≡ added_at n cells.now s gap.0 row }
 {
     let back = gap.0 as usize;
@@ -103,10 +101,4 @@ pub fn gap_at(bytes: &[u8], place: usize) -> Ticks
     ensures { result ≡ ticks_at bytes.now place }
 {
     Ticks(word_inside(bytes, place))
-}
-
-pub fn larger(first: u32, second: u32) -> u32
-    ensures { result ≡ max first second }
-{
-    if first < second { second } else { first }
 }

@@ -4,11 +4,13 @@ ghost use Rattle.meaning.specs.Demand.{longest_time};
 ghost use Rattle.printing.specs.Refusals.{RoomToInterval};
 ghost use Rattle.telling.specs.Told.{DemandTold, MarginTold, sign_of};
 
-use desk::{DemandAnswer, MarginAnswer, demand, margin};
-use printing::{print_head, print_number, print_refusal, print_rows};
+use desk::{Attained, demand, margin};
+use fields::refusal::Refusal;
+use printing::{print_head, print_rows};
 use std::io;
 
-// A margin as it is printed: so much is left of the interval, or so much is missing.
+// A margin as it is printed: so much is left of the interval, or so much is missing. Printed itself it would read the same; the type stays,
+// since the definition `sign_of` and the edit `an_overrun_without_its_sign`, which may not change, are about it.
 #[derive(Clone, Copy)]
 pub(crate) enum Signed {
     Spare(u64),
@@ -23,8 +25,8 @@ pub fn tell_at(
     cells: &mut [u32],
     area: &mut [u8],
 ) -> io::Result<()>
-    requires room_to_interval { RoomToInterval bytes.now interval (length cells.old) }
-    requires longest_time_in_bounds { longest_time ≤ length area.old }
+    requires room { RoomToInterval bytes.now interval (length cells.old) }
+    requires area_room { longest_time ≤ length area.old }
 {
     let found = demand(bytes, interval, cells, area);
     let left = margin(bytes, interval, cells);
@@ -35,44 +37,45 @@ fn print_at(
     rt: &impl Print,
     bytes: &[u8],
     interval: u64,
-    found: DemandAnswer,
-    left: MarginAnswer,
+    found: Result<Attained, Refusal>,
+    left: Result<i64, Refusal>,
     area: &[u8],
 ) -> io::Result<()>
     requires demand_told { DemandTold bytes.now interval area.now found }
     requires margin_told { MarginTold bytes.now interval left }
 {
     match found {
-        DemandAnswer::Refused { number, place } => print_refusal(rt, number, place),
-        DemandAnswer::Found { amount, count } => {
-            print_head(rt, bytes, b"interval ", interval)?;
-            print_number(rt, b"demand ", amount as u64)?;
+        Err(refusal) => rt.println(refusal),
+        Ok(Attained { amount, count }) => {
+            print_head(rt, bytes, "interval", interval)?;
+            println!(rt; "demand {amount}")?;
             print_rows(rt, area, count)?;
             print_margin(rt, left)
         }
     }
 }
 
-fn print_margin(rt: &impl Print, left: MarginAnswer) -> io::Result<()> {
+fn print_margin(rt: &impl Print, left: Result<i64, Refusal>) -> io::Result<()> {
     match left {
-        MarginAnswer::Refused { number, place } => print_refusal(rt, number, place),
-        MarginAnswer::Found { margin } => print_signed(rt, sign_of(margin)),
+        Err(refusal) => rt.println(refusal),
+        Ok(margin) => print_signed(rt, sign_of(margin)),
     }
 }
 
 fn print_signed(rt: &impl Print, margin: Signed) -> io::Result<()> {
     match margin {
-        Signed::Spare(size) => print_number(rt, b"margin ", size),
-        Signed::Missing(size) => print_number(rt, b"margin -", size),
+        Signed::Spare(size) => println!(rt; "margin {size}"),
+        Signed::Missing(size) => println!(rt; "margin -{size}"),
     }
 }
 
-// The sign and the size of a margin. One is added behind the sign's change, since the least number has no opposite.
+// The sign and the size of a margin.
 fn sign_of(margin: i64) -> Signed
     ensures { result ≡ sign_of margin }
 {
+    let size = margin.unsigned_abs();
     if margin < 0 {
-        return Signed::Missing((-(margin + 1)) as u64 + 1);
+        return Signed::Missing(size);
     }
-    Signed::Spare(margin as u64)
+    Signed::Spare(size)
 }

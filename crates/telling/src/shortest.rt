@@ -5,8 +5,9 @@ ghost use Rattle.beginning.specs.Beginning.{graph};
 ghost use Rattle.printing.specs.Refusals.{RoomToAmount};
 ghost use Rattle.telling.specs.Told.{ShortestTold};
 
-use desk::{ShortestAnswer, shortest};
-use printing::{print_head, print_number, print_refusal};
+use desk::shortest;
+use fields::refusal::{Reason, Refusal};
+use printing::print_head;
 use std::io;
 
 pub fn tell_shortest(
@@ -26,27 +27,23 @@ fn print_shortest(
     rt: &impl Print,
     bytes: &[u8],
     amount: u64,
-    answer: ShortestAnswer,
+    answer: Result<u32, Refusal>,
 ) -> io::Result<()>
     requires { ShortestTold bytes.now amount answer }
 {
     match answer {
-        ShortestAnswer::Found { time } => {
-            print_head(rt, bytes, b"amount ", amount)?;
-            print_number(rt, b"shortest ", time as u64)
+        Ok(time) => {
+            print_head(rt, bytes, "amount", amount)?;
+            println!(rt; "shortest {time}")
         }
-        ShortestAnswer::Refused { number, place } => {
-            if number == 14 {
-                return print_none(rt, bytes, amount);
-            }
-            print_refusal(rt, number, place)
-        }
+        Err(refusal) if refusal.reason == Reason::NeverReached => print_none(rt, bytes, amount),
+        Err(refusal) => rt.println(refusal),
     }
 }
 
 fn print_none(rt: &impl Print, bytes: &[u8], amount: u64) -> io::Result<()>
     requires { IsShortest (graph bytes.now) amount no_time }
 {
-    print_head(rt, bytes, b"amount ", amount)?;
+    print_head(rt, bytes, "amount", amount)?;
     rt.println("none")
 }

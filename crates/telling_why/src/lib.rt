@@ -6,11 +6,11 @@ ghost use Rattle.meaning.specs.Demand.{longest_time};
 ghost use Rattle.fields.specs.Limits.{task_limit};
 ghost use Rattle.sheet.specs.Judging.{judged};
 ghost use Rattle.printing.specs.Refusals.{RoomToInterval};
-ghost use Rattle.telling_why.specs.Told.{ExplainTold};
+ghost use Rattle.telling_why.specs.Told.{RowsStand, ExplainTold};
 
-use explain::{Cause, ExplainAnswer, Explained, explain};
-use fields::values::Sheet;
-use printing::{print_head, print_number, print_refusal, print_rows};
+use explain::{Cause, Explained, Overrun, explain};
+use fields::refusal::Refusal;
+use printing::{print_head, print_rows};
 use sheet::judge;
 use std::io;
 
@@ -21,50 +21,57 @@ pub fn tell_why(
     cells: &mut [u32],
     area: &mut [u8],
 ) -> io::Result<()>
-    requires room_to_interval { RoomToInterval bytes.now horizon (length cells.old) }
-    requires longest_time_in_bounds { longest_time ≤ length area.old }
+    requires room { RoomToInterval bytes.now horizon (length cells.old) }
+    requires area_room { longest_time ≤ length area.old }
 {
     let explained = explain(bytes, horizon, cells, area);
-    print_explained(rt, bytes, horizon, explained, area)
+    print_answer(rt, bytes, horizon, explained, area)
+}
+
+fn print_answer(
+    rt: &impl Print,
+    bytes: &[u8],
+    horizon: u64,
+    answer: Result<Explained, Refusal>,
+    area: &[u8],
+) -> io::Result<()>
+    requires { ExplainTold bytes.now horizon area.now answer }
+{
+    match answer {
+        Ok(explained) => {
+            print_head(rt, bytes, "horizon", horizon)?;
+            print_explained(rt, bytes, explained, area)
+        }
+        Err(refusal) => rt.println(refusal),
+    }
 }
 
 fn print_explained(
     rt: &impl Print,
     bytes: &[u8],
-    horizon: u64,
     explained: Explained,
     area: &[u8],
 ) -> io::Result<()>
-    requires { ExplainTold bytes.now horizon area.now explained explained.answer }
+    requires { RowsStand area.now explained }
 {
-    let answer = explained.answer;
-    match answer {
-        ExplainAnswer::Refused { number, place } => print_refusal(rt, number, place),
-        ExplainAnswer::Holds { margin, interval } => {
-            print_head(rt, bytes, b"horizon ", horizon)?;
+    match explained {
+        Explained::Holds { margin, interval } => {
             println!(rt; "holds\nmargin {margin} at {interval}")
         }
-        ExplainAnswer::NoInterval => {
-            print_head(rt, bytes, b"horizon ", horizon)?;
-            rt.println("holds")
-        }
-        ExplainAnswer::Fails {
-            interval,
-            cause,
-            engine,
-            excess,
-            count,
-        } => {
-            print_head(rt, bytes, b"horizon ", horizon)?;
-            print_number(rt, b"fails ", interval)?;
-            print_cause(rt, cause)?;
-            print_number(rt, b"engine ", engine as u64)?;
-            print_rows(rt, area, count)?;
-            let demands = explained.demands;
-            print_tasks(rt, tasks_of(bytes), demands)?;
-            print_number(rt, b"excess ", excess)
-        }
+        Explained::NoInterval => rt.println("holds"),
+        Explained::Fails(overrun) => print_overrun(rt, bytes, overrun, area),
     }
+}
+
+fn print_overrun(rt: &impl Print, bytes: &[u8], overrun: Overrun, area: &[u8]) -> io::Result<()>
+    requires { overrun.count ≤ length area.now }
+{
+    println!(rt; "fails {}", overrun.interval)?;
+    print_cause(rt, overrun.cause)?;
+    println!(rt; "engine {}", overrun.engine)?;
+    print_rows(rt, area, overrun.count)?;
+    print_tasks(rt, &overrun.demands[..tasks_of(bytes)])?;
+    println!(rt; "excess {}", overrun.excess)
 }
 
 fn print_cause(rt: &impl Print, cause: Cause) -> io::Result<()> {
@@ -75,26 +82,21 @@ fn print_cause(rt: &impl Print, cause: Cause) -> io::Result<()> {
     }
 }
 
-// What each of a number of fixed tasks asks for.
-fn print_tasks(rt: &impl Print, tasks: usize, demands: [u64; Sheet::TASKS]) -> io::Result<()>
-    requires { tasks ≤ task_limit }
-{
-    for task in 0..tasks {
-        print_task(rt, task, demands[task])?;
+// What each of the fixed tasks asks for.
+fn print_tasks(rt: &impl Print, demands: &[u64]) -> io::Result<()> {
+    for (task, demand) in demands.iter().enumerate() {
+        println!(rt; "task {task} {demand}")?;
     }
     Ok(())
 }
 
-fn print_task(rt: &impl Print, task: usize, demand: u64) -> io::Result<()> {
-    println!(rt; "task {task} {demand}")
-}
-
 // How many fixed tasks a sheet has, none where it is refused.
 fn tasks_of(bytes: &[u8]) -> usize
-    ensures value { result ≡ (judged bytes.now).sheet.tally.tasks }
-    ensures upper_bound { result ≤ task_limit }
+    ensures tasks { result ≡ (judged bytes.now).sheet.tally.tasks }
+    ensures at_most { result ≤ task_limit }
 {
-    let judged = judge(bytes);
-    let tally = judged.sheet.tally;
-    tally.tasks
+    match judge(bytes) {
+        Ok(sheet) => sheet.tally.tasks,
+        Err(_) => 0,
+    }
 }

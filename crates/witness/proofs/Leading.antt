@@ -1,17 +1,14 @@
--- The search for the follower that leads on to the rest of a witness: it goes from one row of the set to the next, with a place in the file that moves one gap on.
-use mathlib.Core.Path.{◌≡◌, sym, ap, ◌∙◌}
+-- The search for the follower that leads on to the rest of a witness: a walk over the followers up to the first that adds just the work wanted.
+use mathlib.Core.Path.{◌≡◌, refl, sym, ap, ◌∙◌}
 use mathlib.Core.Logic.{⊎_elim}
 use mathlib.Core.Bool.{true, false}
 use mathlib.Core.List.{List}
 use Prim.Native.Nat.{ℕ, ◌+◌, ◌-◌, ◌*◌, ◌^◌, ◌≤◌, ◌<◌}
-use native.Mathlib.Nat.{add-zero}
 use native.Mathlib.Omega.{arith}
 use lib.ListN.{length}
 use borrow.Author.Tests.{eqb-true, eq-eqb, ne_eqb}
 use Rattle.sets.specs.Sets.{bit, below}
 use Rattle.sets.proofs.Bits.{bit_or}
-use Rattle.sets.proofs.Counts.{below_clear, below_step, below_lt}
-use Rattle.sets.proofs.Search.{First}
 use Rattle.meaning.specs.Computed.{seek, cell_at, via_at}
 use Rattle.meaning.proofs.Tests.{lt_or}
 use Rattle.meaning.proofs.Seeking.{seek_hit}
@@ -20,16 +17,19 @@ use Rattle.fields.specs.Limits.{gap_size}
 use Rattle.sheet.specs.Meaning.{gap_of}
 use Rattle.sheet.specs.Proper.{ProperRow}
 use Rattle.fields.specs.Reading.{word_at}
+use Rattle.fields.specs.declared.units.Ticks.{Ticks}
 use Rattle.fields.specs.declared.values.Row.{Row}
 use Rattle.tables.specs.Adding.{added_at}
-use Rattle.tables.specs.Followers.{gap_to, Followed}
+use Rattle.tables.specs.Followers.{gap_to}
 use Rattle.witness.specs.Stands.{leads}
-use Rattle.tables.proofs.Followers.{gap_of_other}
+use Rattle.tables.specs.Walk.{Taken}
+use Rattle.tables.specs.declared.walk.Followers.{Followers}
+use Rattle.tables.proofs.Followers.{gap_of_follower, gap_of_other, gap_inside, Walked, walked_none, walked_fresh, walked_past, walked_bit, walked_gap, walked_before, walked_more, walked_behind}
 use Rattle.tables.proofs.Adding.{via_follower, via_other}
 use Rattle.witness.proofs.Searches.{seek_is, seek_none}
 
 -- the gap of a row that leads on fits, and its cell is the work wanted
-pub leads_on : (n : ℕ) (gap : ℕ → ℕ) (table : ℕ → ℕ → ℕ) (s want : ℕ) → 0 < want → (j : ℕ) → j < n → j ≡ seek n 0 (leads gap table s want)
+leads_on : (n : ℕ) (gap : ℕ → ℕ) (table : ℕ → ℕ → ℕ) (s want : ℕ) → 0 < want → (j : ℕ) → j < n → j ≡ seek n 0 (leads gap table s want)
     → (0 < gap j) × (gap j ≤ s) × (table (s - gap j) j ≡ want)
 leads_on n gap table s want some j h e =
     let found : seek n 0 (leads gap table s want) < 0 + n = omega arith in
@@ -42,47 +42,45 @@ leads_on n gap table s want some j h e =
 abbrev pub Adds : List ℕ → List ℕ → ℕ → ℕ → ℕ → ℕ → ℕ → ℕ → Type 0
 Adds bytes cells n followers first s want i = (bit followers i ≡ 1) × (added_at n cells s (gap_to bytes followers first i) i ≡ want)
 
--- the first gap from row `from` on stands at `place`, and no follower below `from` adds just the work wanted
-pub record Sought (bytes cells : List ℕ) (n followers first s want place from : ℕ) : Type 0 where
-  pub within : from ≤ 64
-  pub next_gap : place ≡ first + gap_size * below followers from
-  pub none : (i : ℕ) → i < from → Adds bytes cells n followers first s want i → ⊥
+-- the walk over the followers has come from `start` to `now`, and none of those that it has passed adds just the work wanted
+pub record Sought (cells : List ℕ) (n s want : ℕ) (start now : Followers) : Type 0 where
+  pub walked : Walked {A = ℕ} (λ _ made. made) 0 start now 0
+  pub none : (i : ℕ) → i < walked.left.from → Adds start.bytes.now cells n start.rest start.place s want i → ⊥
 
-module _ (bytes cells : List ℕ) (n followers first s want : ℕ) where
-  pub sought_start : Sought bytes cells n followers first s want first 0
-  unfolding below
-  sought_start = record { within = omega arith; next_gap = sym (add-zero first); none = λ i l. absurd (omega arith) }
+module _ (cells : List ℕ) (n s want : ℕ) (start : Followers) where
+  pub sought_start : start.rest < 2 ^ 64 → Sought cells n s want start start
+  sought_start fits =
+      record { walked = walked_none {A = ℕ} (λ _ made. made) 0 start fits; none = λ i l. omega (arith, l, walked_fresh {A = ℕ} (λ _ made. made) 0 start fits) }
 
-  module _ (place from : ℕ) (sought : Sought bytes cells n followers first s want place from) where
-    -- what holds below `from` holds below a row with no follower in between
-    pub sought_none : (j : ℕ) → ((i : ℕ) → from ≤ i → i < j → bit followers i ≡ 0) → (i : ℕ) → i < j → Adds bytes cells n followers first s want i → ⊥
-    sought_none j clear i l a = ⊎_elim (λ h. sought.none i h a) (λ h. omega (arith, a.0, clear i h l)) (lt_or i from)
+  module _ {now : Followers} (sought : Sought cells n s want start now) where
+    -- a turn: the walk gives row j and the gap to it
+    module _ {after : Followers} {j : ℕ} {gap : Ticks} (taken : Taken now after j gap) where
+      -- no follower below it adds just the work wanted
+      pub sought_before : (i : ℕ) → i < j → Adds start.bytes.now cells n start.rest start.place s want i → ⊥
+      sought_before i l a = sought.none i (walked_before sought.walked taken i a.0 l) a
 
-    module _ (j : ℕ) (next : First (64 - from) followers from j) where
-      -- the gap of the next follower
-      pub sought_gap : word_at bytes place ≡ gap_to bytes followers first j
-      sought_gap =
-          let same : place ≡ first + gap_size * below followers j = omega (arith, sought.next_gap, below_clear followers from j next.from next.clear) in
-          ap (word_at bytes) same
+      module _ {added : ℕ} (adds : added ≡ added_at n cells s gap.0 j) where
+        added_is : added ≡ added_at n cells s (gap_to start.bytes.now start.rest start.place j) j
+        added_is = adds ∙ ap (λ (x : ℕ). added_at n cells s x j) (walked_gap sought.walked taken)
 
-      -- stands in the file
-      pub sought_inside : Followed bytes n followers first → place + 1 < length bytes
-      sought_inside followed =
-          omega (
-            arith,
-            sought.next_gap,
-            below_clear followers from j next.from next.clear,
-            below_lt 64 followers j next.is_in (omega (arith, next.within, sought.within)),
-            followed.inside,
-          )
+        -- it adds just the work
+        pub sought_hit : added ≡ want → Adds start.bytes.now cells n start.rest start.place s want j
+        sought_hit e = (walked_bit sought.walked taken, sym added_is ∙ e)
 
-      -- and where it does not add just the work, the search goes on behind it
-      pub sought_next : (added_at n cells s (gap_to bytes followers first j) j ≡ want → ⊥) → Sought bytes cells n followers first s want (place + gap_size) (j + 1)
-      sought_next other = record {
-        within = omega (arith, next.within, sought.within);
-        next_gap = omega (arith, sought.next_gap, below_clear followers from j next.from next.clear, below_step followers j, next.is_in);
-        none = λ i l a. ⊎_elim (λ h. sought_none j next.clear i h a) (λ h. let same : i ≡ j = omega arith in other (rw same at a.1)) (lt_or i j);
-      }
+        -- where it does not, the search goes on behind it
+        pub sought_next : (added ≡ want → ⊥) → Sought cells n s want start after
+        sought_next other = record {
+          walked = walked_more sought.walked taken refl;
+          none = λ i l a.
+              ⊎_elim
+              (λ h. sought_before i h a)
+              (λ h. let same : i ≡ j = omega (arith, l, walked_behind sought.walked taken refl) in other (added_is ∙ (rw same at a.1)))
+              (lt_or i j);
+        }
+
+    -- the walk gives no more: no follower adds just the work wanted
+    pub sought_end : now.rest ≡ 0 → (i : ℕ) → i < n → Adds start.bytes.now cells n start.rest start.place s want i → ⊥
+    sought_end e i _ a = sought.none i (walked_past sought.walked e i a.0) a
 
 module _ (bytes : List ℕ) (n : ℕ) (row : Row) (proper : ProperRow bytes n row) (fits : row.followers < 2 ^ 64) (cells : List ℕ) (s want : ℕ) (some : 0 < want) where
   -- a row that does not add just the work as a follower does not lead on
@@ -106,10 +104,21 @@ module _ (bytes : List ℕ) (n : ℕ) (row : Row) (proper : ProperRow bytes n ro
       → n ≡ seek n 0 (leads (gap_of bytes row) (cell_at n cells) s want)
   leading_none none = seek_none n _ (λ i l. not_leading i (none i l))
 
-  -- what is found is a follower
-  pub lead_follows : (j : ℕ) → j < n → j ≡ seek n 0 (leads (gap_of bytes row) (cell_at n cells) s want) → bit row.followers j ≡ 1
-  lead_follows j h e =
-      ⊎_elim
-      (λ b. absurd (omega (arith, gap_of_other bytes row j b, (leads_on n (gap_of bytes row) (cell_at n cells) s want some j h e).0)))
-      (λ b. b)
-      (bit_or row.followers j)
+  -- what is found
+  module _ (j : ℕ) (h : j < n) (e : j ≡ seek n 0 (leads (gap_of bytes row) (cell_at n cells) s want)) where
+    goes : (0 < gap_of bytes row j) × (gap_of bytes row j ≤ s) × (cell_at n cells (s - gap_of bytes row j) j ≡ want)
+    goes = leads_on n (gap_of bytes row) (cell_at n cells) s want some j h e
+
+    follows : bit row.followers j ≡ 1
+    follows = ⊎_elim (λ b. absurd (omega (arith, gap_of_other bytes row j b, goes.0))) (λ b. b) (bit_or row.followers j)
+
+    -- is a follower, its gap stands in the file
+    pub lead_inside : row.gaps + gap_size * below row.followers j + 1 < length bytes
+    lead_inside = gap_inside bytes n row proper fits j follows
+
+    pub lead_gap : word_at bytes (row.gaps + gap_size * below row.followers j) ≡ gap_of bytes row j
+    lead_gap = sym (gap_of_follower bytes row j follows)
+
+    -- and fits the time that is left
+    pub lead_fits : gap_of bytes row j ≤ s
+    lead_fits = goes.1

@@ -1,115 +1,83 @@
--- A step of a witness of a sheet, as the loops that count it and write it take it.
-use mathlib.Core.Path.{◌≡◌, sym, ap, ◌∙◌, subst}
-use mathlib.Core.List.{List, [], ◌∷◌, ◌++◌}
-use Prim.Native.Nat.{ℕ, ◌+◌, ◌*◌, ◌≤◌, ◌<◌}
-use native.Mathlib.Nat.{mul-le-mul}
+-- The start of a witness of a sheet, and a step of it.
+use mathlib.Core.Path.{◌≡◌, sym, ap}
+use mathlib.Core.List.{List}
+use Prim.Native.Nat.{ℕ, ◌+◌, ◌≤◌, ◌<◌}
 use native.Mathlib.Omega.{arith}
-use lib.ListN.{length, get_or, length-append}
-use Rattle.meaning.specs.Graph.{Sound}
+use lib.ListN.{length}
 use Rattle.meaning.specs.Cells.{ByInterval}
 use Rattle.meaning.specs.Computed.{witness_of}
 use Rattle.meaning.proofs.Bounds.{witness_at_most}
 use Rattle.meaning.proofs.Existence.{witness_of_lem}
-use Rattle.beginning.specs.Beginning.{graph}
-use Rattle.fields.specs.Limits.{row_limit, head_size}
-use Rattle.fields.specs.Reading.{row_at}
-use Rattle.fields.specs.declared.values.Row.{Row}
-use Rattle.sheet.specs.Judging.{judged}
-use Rattle.sheet.specs.Meaning.{row_of, gap_of, graph_of}
-use Rattle.sheet.specs.Proper.{ProperRow}
-use Rattle.tables.specs.Laid.{Laid}
+use Rattle.fields.specs.Limits.{row_limit}
+use Rattle.sheet.specs.Meaning.{gap_of, graph_of}
 use Rattle.tables.specs.Lines.{HasLines}
-use Rattle.witness.specs.Stands.{start_of, onward_of}
+use Rattle.tables.specs.Seen.{row_in, work_in}
+use Rattle.tables.specs.declared.rows.Rows.{Rows}
+use Rattle.beginning.specs.Beginning.{graph}
+use Rattle.witness.specs.Stands.{Passed, Stands, start_of, onward_of, rest_of}
 use Rattle.witness.specs.declared.Stand.{Stand}
-use Rattle.witness.proofs.Witnesses.{OnWay, way_none, way_start, way_room, way_end, way_found, way_next}
+use Rattle.witness.proofs.Witnesses.{start_rest, start_stands, passed_last, passed_found, passed_more}
 
-module _ (bytes places lengths : List ℕ) (n : ℕ) (laid : Laid bytes places lengths n) (cells : List ℕ) (t : ℕ)
-    (table : HasLines n (ByInterval (graph bytes)) cells (t + 1)) where
-  sound : Sound (graph bytes)
-  sound = laid.ready.sound
-
+module _ (rows : Rows) where
   -- the graph has as many rows as a line has cells
-  same_rows_lem : n ≡ (graph bytes).rows
+  same_rows : rows.count ≡ (graph rows.bytes.now).rows
   unfolding graph_of
-  same_rows_lem = laid.rows
+  same_rows = rows.laid.rows
 
-  graph_lines : HasLines (graph bytes).rows (ByInterval (graph bytes)) cells (t + 1)
-  graph_lines = rw same_rows_lem at table
+  -- and no more than the arrays
+  pub graph_few : (graph rows.bytes.now).rows ≤ row_limit
+  graph_few = omega (arith, same_rows, rows.laid.rows, rows.laid.ready.proper.rows_most)
 
-  -- no work at the start: no witness
-  pub starts_none : (stand : Stand) → stand ≡ start_of n cells t → stand.work ≡ 0 → [] ≡ witness_of (graph bytes) t
-  starts_none stand e z = way_none (graph bytes) sound cells t graph_lines (sym (ap (λ s. s.work) (rw same_rows_lem at e)) ∙ z)
+  -- at the start all of the time is left, and all of the witness is to come
+  pub starts : (cells : List ℕ) (t : ℕ) → HasLines rows.count (ByInterval (graph rows.bytes.now)) cells (t + 1) → (stand : Stand) → stand ≡ start_of rows.count cells t
+      → (stand.left ≤ t) × Stands (graph rows.bytes.now) stand × (rest_of (graph rows.bytes.now) stand ≡ witness_of (graph rows.bytes.now) t)
+  unfolding start_of
+  starts cells t table stand e =
+      let g = graph rows.bytes.now in
+      let lines = rw same_rows at table in
+      rw (e, same_rows) (omega arith, start_stands g rows.laid.ready.sound cells t lines, start_rest g rows.laid.ready.sound cells t lines)
 
-  pub starts : (stand : Stand) → stand ≡ start_of n cells t → (stand.work ≡ 0 → ⊥) → OnWay (graph bytes) t [] stand
-  starts stand e some =
-      let begun : stand ≡ start_of (graph bytes).rows cells t = rw same_rows_lem at e in
-      let work : stand.work ≡ (start_of (graph bytes).rows cells t).work = ap (λ s. s.work) begun in
-      subst (λ (s : Stand). OnWay (graph bytes) t [] s) (sym begun)
-      (way_start (graph bytes) sound cells t graph_lines (omega (arith, some, work)))
+  -- a witness has no more rows than its time has ticks
+  pub witness_few : (t : ℕ) → length (witness_of (graph rows.bytes.now) t) ≤ t
+  witness_few t = witness_at_most (graph rows.bytes.now) rows.laid.ready.sound t _ (witness_of_lem (graph rows.bytes.now) rows.laid.ready.sound t)
 
-  module _ (before : List ℕ) (stand : Stand) (way : OnWay (graph bytes) t before stand) where
-    row_within : stand.row < n
-    row_within = omega (arith, way.row_in, same_rows_lem)
+  module _ (cells : List ℕ) (stand : Stand) (table : HasLines rows.count (ByInterval (graph rows.bytes.now)) cells (stand.left + 1))
+      (stands : Stands (graph rows.bytes.now) stand) (some : 0 < stand.work) where
+    lines : HasLines (graph rows.bytes.now).rows (ByInterval (graph rows.bytes.now)) cells (stand.left + 1)
+    lines = rw same_rows at table
 
-    -- the row is one that the arrays have
-    pub step_row : stand.row < row_limit
-    step_row = omega (arith, row_within, laid.rows, laid.ready.proper.rows_most)
+    -- the row where it stands is one of the sheet's
+    pub step_row : stand.row < rows.count
+    step_row = omega (arith, stands.row_in some, same_rows)
 
-    -- and it may be read where it stands
-    pub step_inside : get_or places stand.row 0 + head_size ≤ length bytes
-    step_inside = laid.inside stand.row row_within
+    -- and one that the arrays have
+    pub step_few : stand.row < row_limit
+    step_few = omega (arith, step_row, same_rows, graph_few)
 
-    -- the rows passed are fewer than the ticks
-    pub step_few : length before < t
-    step_few = omega (arith, way_room (graph bytes) t before stand way, witness_at_most (graph bytes) sound t _ (witness_of_lem (graph bytes) sound t))
-
-    -- the row's length is the one handed down
-    own_is : get_or lengths stand.row 0 ≡ (graph bytes).length stand.row
+    own_is : work_in rows stand.row ≡ (graph rows.bytes.now).length stand.row
     unfolding graph_of
-    own_is = laid.length stand.row row_within
+    own_is = rows.laid.length stand.row step_row
 
-    -- where no work is left for another row, the witness ends here
-    pub step_last : stand.work ≤ get_or lengths stand.row 0 → before ++ stand.row ∷ [] ≡ witness_of (graph bytes) t
-    step_last l = way_end (graph bytes) t before stand way (omega (arith, own_is))
+    gaps_are : gap_of rows.bytes.now (row_in rows stand.row) ≡ (graph rows.bytes.now).gap stand.row
+    unfolding graph_of
+    gaps_are = ap (gap_of rows.bytes.now) (sym (rows.laid.row stand.row step_row))
 
-    module _ (l : get_or lengths stand.row 0 < stand.work) (row : Row) (e : row ≡ row_at bytes (get_or places stand.row 0)) where
-      own_less : (graph bytes).length stand.row < stand.work
-      own_less = omega (arith, own_is)
+    -- the step goes on as the graph has it
+    onward_is : onward_of (gap_of rows.bytes.now (row_in rows stand.row)) cells (work_in rows stand.row) rows.count stand
+        ≡ onward_of ((graph rows.bytes.now).gap stand.row) cells ((graph rows.bytes.now).length stand.row) (graph rows.bytes.now).rows stand
+    onward_is = rw (gaps_are, own_is, same_rows)
 
-      -- the row read is the sheet's
-      row_is : row ≡ row_of (judged bytes).sheet stand.row
-      row_is = e ∙ sym (laid.row stand.row row_within)
+    -- where the work left is the row's own, it is the last
+    pub step_last : stand.work ≤ work_in rows stand.row → Passed (graph rows.bytes.now) stand stand.row record { row = stand.row; left = stand.left; work = 0 }
+    step_last l = passed_last (graph rows.bytes.now) rows.laid.ready.sound cells stand lines stands some (omega (arith, own_is))
 
-      -- so its gaps are the graph's
-      gaps_are : gap_of bytes row ≡ (graph bytes).gap stand.row
-      unfolding graph_of
-      gaps_are = ap (gap_of bytes) row_is
+    -- where it is more, the witness goes on to a row of the sheet
+    pub step_found : work_in rows stand.row < stand.work
+        → (onward_of (gap_of rows.bytes.now (row_in rows stand.row)) cells (work_in rows stand.row) rows.count stand).row < rows.count
+    step_found l =
+        let found = passed_found (graph rows.bytes.now) rows.laid.ready.sound cells stand lines stands some (omega (arith, own_is)) in
+        omega (arith, ap (λ (next : Stand). next.row) onward_is, found, same_rows)
 
-      -- and the step goes on as the graph has it
-      onward_is : onward_of (gap_of bytes row) cells (get_or lengths stand.row 0) n stand
-          ≡ onward_of ((graph bytes).gap stand.row) cells ((graph bytes).length stand.row) (graph bytes).rows stand
-      onward_is = rw (gaps_are, own_is, same_rows_lem)
-
-      -- what the step asks
-      pub step_asks : ProperRow bytes n row
-          × ((n * (stand.left + 1) ≤ length cells)
-          × ((get_or lengths stand.row 0 < stand.work) × ((onward_of (gap_of bytes row) cells (get_or lengths stand.row 0) n stand).row < n)))
-      step_asks =
-          let lines : n * (stand.left + 1) ≤ n * (t + 1) = mul-le-mul {n₁ = n} {m₁ = stand.left + 1} {n₂ = n} {m₂ = t + 1} (omega arith) (omega (arith, way.in_time)) in
-          let found = way_found (graph bytes) sound cells t graph_lines before stand way own_less in (
-            rw (row_is, laid.rows) (laid.ready.proper.each_row stand.row (omega (arith, row_within, laid.rows))),
-            (
-              omega (arith, table.room),
-              (l, omega (arith, ap (λ (next : Stand). next.row) onward_is, found, same_rows_lem)),
-            ),
-          )
-
-      -- and what it gives
-      pub step_on : (next : Stand) → next ≡ onward_of (gap_of bytes row) cells (get_or lengths stand.row 0) n stand
-          → OnWay (graph bytes) t (before ++ stand.row ∷ []) next
-      step_on next is =
-          rw (is ∙ onward_is) (way_next (graph bytes) sound cells t graph_lines before stand way own_less)
-
--- one row more is one more in the count
-pub count_more : (before : List ℕ) (row count : ℕ) → count ≡ length before → count + 1 ≡ length (before ++ row ∷ [])
-count_more before row count e = omega (arith, length-append before (row ∷ []))
+    pub step_more : work_in rows stand.row < stand.work
+        → Passed (graph rows.bytes.now) stand stand.row (onward_of (gap_of rows.bytes.now (row_in rows stand.row)) cells (work_in rows stand.row) rows.count stand)
+    step_more l = rw onward_is (passed_more (graph rows.bytes.now) rows.laid.ready.sound cells stand lines stands some (omega (arith, own_is)))

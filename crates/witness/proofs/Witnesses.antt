@@ -1,13 +1,13 @@
--- The witness is found row by row in the table by interval.
+-- The witness is found row by row: what is still to come of it, from where it stands.
 use mathlib.Core.Path.{◌≡◌, refl, sym, ap, ◌∙◌, subst}
 use mathlib.Core.Logic.{⊎_elim}
-use mathlib.Core.Bool.{Bool, true, false}
-use mathlib.Core.List.{List, [], ◌∷◌, ◌++◌, append_assoc}
-use Prim.Native.Nat.{ℕ, suc, ◌+◌, ◌-◌, ◌≤◌, ◌<◌}
+use mathlib.Core.Bool.{Bool, true, false, ◌&&◌}
+use mathlib.Core.List.{List, [], ◌∷◌}
+use Prim.Native.Nat.{ℕ, zero, suc, ◌+◌, ◌-◌, ◌≤◌, ◌<◌}
 use native.Mathlib.Omega.{arith}
-use lib.Dec.{eqb}
-use lib.ListN.{length, length-append}
-use borrow.Author.Tests.{le-leb, lt-leb, eqb-true, eq-eqb, ne_eqb}
+use lib.Dec.{eqb, leb, ltb}
+use borrow.Author.Tests.{le-leb, lt-leb, lt-ltb, eqb-true, eq-eqb, ne_eqb}
+use Rattle.std.proofs.lemmas.Bool.Decides.{nat_tests}
 use Rattle.meaning.specs.Graph.{Graph, Sound}
 use Rattle.meaning.specs.Cells.{ByInterval, IsBestFrom}
 use Rattle.meaning.specs.Computed.{max_below, seek, cell_at, best, demand_of, goes_on, rest_within, witness_of}
@@ -19,10 +19,9 @@ use Rattle.meaning.proofs.ByInterval.{via_take, via_late, via_none}
 use Rattle.meaning.proofs.Existence.{best_of}
 use Rattle.meaning.proofs.Witness.{next_row}
 use Rattle.tables.specs.Lines.{HasLines}
-use Rattle.witness.specs.Stands.{leads, start_of, onward_of}
+use Rattle.witness.specs.Stands.{Passed, Stands, leads, start_of, onward_of, rest_of}
 use Rattle.witness.specs.declared.Stand.{Stand}
 use Rattle.witness.proofs.Searches.{seek_same}
-use Rattle.witness.proofs.Leading.{leads_on}
 
 module _ (g : Graph) (fuel s k r : ℕ) where
   -- where the work left is the row's own, no row follows
@@ -35,25 +34,51 @@ module _ (g : Graph) (fuel s k r : ℕ) where
   unfolding rest_within
   rest_more l j e = rw (lt-leb r (g.length k) l, e)
 
--- `before` are the rows passed, and the witness goes on from where it stands
-pub record OnWay (g : Graph) (t : ℕ) (before : List ℕ) (stand : Stand) : Type 0 where
-  pub row_in : stand.row < g.rows
-  pub in_time : stand.left ≤ t
-  pub some : 0 < stand.work
-  pub cell : IsBestFrom g stand.row stand.left stand.work
-  pub fuel : ℕ
-  pub enough : stand.left ≤ fuel
-  pub whole : before ++ stand.row ∷ rest_within g (suc fuel) stand.left stand.row stand.work ≡ witness_of g t
+-- what the test of a row that goes on says
+reads : (gap s have want : ℕ) → (ltb 0 gap && leb gap s && eqb have want) ≡ true → (0 < gap) × (gap ≤ s) × (have ≡ want)
+reads gap s have want e = grind (arith, nat_tests)
 
-module _ (g : Graph) (t : ℕ) (before : List ℕ) (stand : Stand) (way : OnWay g t before stand) where
-  -- a row more is to come
-  pub way_room : length before < length (witness_of g t)
-  way_room =
-      omega (arith, ap length way.whole, length-append before (stand.row ∷ rest_within g (suc way.fuel) stand.left stand.row stand.work))
+module _ (g : Graph) (sound : Sound g) where
+  -- where the work left is more than the row's own, the first row that goes on is one of the graph's, its gap fits, and its cell is the rest of the work
+  module _ (s k r : ℕ) (h : k < g.rows) (cell : IsBestFrom g k s r) (l : g.length k < r) where
+    on : ℕ
+    on = seek g.rows 0 (goes_on g s k r)
 
-  -- where the work left is the row's own, it is the last
-  pub way_end : stand.work ≤ g.length stand.row → before ++ stand.row ∷ [] ≡ witness_of g t
-  way_end l = rw (rest_none g way.fuel stand.left stand.row stand.work l) at way.whole
+    on_found : on < g.rows
+    unfolding on
+    on_found =
+        let found = next_row g s k r h (λ i. best g (s - g.gap k i) i) (λ i hi p q. best_of g sound (s - g.gap k i) i hi) cell l in
+        let passes : goes_on g s k r found.0 ≡ true = rw (lt-ltb 0 _ found.2, le-leb _ _ found.3, eq-eqb _ _ found.4) in
+        omega (arith, found.1, seek_le g.rows 0 (goes_on g s k r) found.0 (omega arith) passes)
+
+    on_goes : (0 < g.gap k on) × (g.gap k on ≤ s) × (best g (s - g.gap k on) on ≡ r - g.length k)
+    unfolding on
+    on_goes = reads _ _ _ _ (seek_hit g.rows 0 (goes_on g s k r) (omega (arith, on_found)))
+
+    on_cell : IsBestFrom g on (s - g.gap k on) (r - g.length k)
+    on_cell = rw on_goes.2 at (best_of g sound (s - g.gap k on) on on_found)
+
+  -- fuel that is enough is as good as any other
+  rest_same : (fuel more s k r : ℕ) → s < fuel → s < more → k < g.rows → IsBestFrom g k s r → rest_within g fuel s k r ≡ rest_within g more s k r
+  unfolding on
+  rest_same zero more s k r a b h cell = absurd (omega arith)
+  rest_same (suc fuel) zero s k r a b h cell = absurd (omega arith)
+  rest_same (suc fuel) (suc more) s k r a b h cell =
+      ⊎_elim
+      (λ own. rest_none g fuel s k r own.0 ∙ sym (rest_none g more s k r own.0))
+      (λ rest.
+      let l = rest.0 in
+      let goes = on_goes s k r h cell l in
+      let same = rest_same fuel more (s - g.gap k (on s k r h cell l)) (on s k r h cell l) (r - g.length k) (omega arith) (omega arith) (on_found s k r h cell l) (on_cell s k r h cell l) in
+      rest_more g fuel s k r l _ refl ∙ ap (λ rows. on s k r h cell l ∷ rows) same ∙ sym (rest_more g more s k r l _ refl))
+      (le_or r (g.length k))
+
+-- no work left: no row is to come
+pub rest_done : (g : Graph) (stand : Stand) → stand.work ≡ 0 → rest_of g stand ≡ []
+unfolding rest_of
+rest_done g stand e = rw (le-leb stand.work 0 (omega arith))
+
+-- ---- as the cells have it
 
 module _ (g : Graph) (sound : Sound g) (cells : List ℕ) (t : ℕ) (table : HasLines g.rows (ByInterval g) cells (t + 1)) where
   -- every cell of the lines is the value of its definition
@@ -64,13 +89,6 @@ module _ (g : Graph) (sound : Sound g) (cells : List ℕ) (t : ℕ) (table : Has
   unfolding demand_of
   demand_same = max_same g.rows (cell_at g.rows cells t) (best g t) (λ k h. cell_is t k (omega arith) h)
 
-  -- ---- the start
-
-  -- where there is no demand the witness has no row
-  pub way_none : (start_of g.rows cells t).work ≡ 0 → [] ≡ witness_of g t
-  unfolding start_of witness_of
-  way_none e = rw (le-leb (demand_of g t) 0 (omega (arith, demand_same)))
-
   -- the first row whose cell is the demand is the witness's first row
   first_same : seek g.rows 0 (λ k. eqb (cell_at g.rows cells t k) (max_below g.rows (cell_at g.rows cells t)))
       ≡ seek g.rows 0 (λ k. eqb (best g t k) (demand_of g t))
@@ -78,98 +96,93 @@ module _ (g : Graph) (sound : Sound g) (cells : List ℕ) (t : ℕ) (table : Has
       seek_same g.rows 0 _ _
       (λ k _ h. rw (demand_same, cell_is t k (omega arith) (omega arith)))
 
-  begins : 0 < demand_of g t → (k d : ℕ) → k ≡ seek g.rows 0 (λ k. eqb (best g t k) (demand_of g t)) → d ≡ demand_of g t
-      → k ∷ rest_within g (suc t) t k d ≡ witness_of g t
-  unfolding witness_of
-  begins p k d e f = rw (e, f, lt-leb (demand_of g t) 0 p)
+  -- at the start all of the witness is to come
+  pub start_rest : rest_of g (start_of g.rows cells t) ≡ witness_of g t
+  unfolding start_of rest_of witness_of
+  start_rest = rw (first_same, demand_same)
 
-  pub way_start : 0 < (start_of g.rows cells t).work → OnWay g t [] (start_of g.rows cells t)
+  pub start_stands : Stands g (start_of g.rows cells t)
   unfolding start_of
-  way_start p =
-      let n : ℕ = g.rows in
-      let most : ℕ = max_below n (cell_at n cells t) in
-      let test : ℕ → Bool = λ k. eqb (cell_at n cells t k) most in
-      let k : ℕ = seek n 0 test in
-      let found : (j : ℕ) × (j < n) × (most ≡ cell_at n cells t j) =
-      ⊎_elim (λ m. (m.0, m.1, m.2)) (λ z. absurd (omega arith)) (max_at n (cell_at n cells t)) in
-      let hk : k < n = omega (arith, found.1, seek_le n 0 test found.0 (omega arith) (eq-eqb _ _ (sym found.2))) in
-      let e : cell_at n cells t k ≡ most = eqb-true _ _ (seek_hit n 0 test (omega arith)) in
+  start_stands =
+      let most : ℕ = max_below g.rows (cell_at g.rows cells t) in
+      let test : ℕ → Bool = λ k. eqb (cell_at g.rows cells t k) most in
+      let k : ℕ = seek g.rows 0 test in
+      let row : 0 < most → k < g.rows = λ p.
+      ⊎_elim
+      (λ m. omega (arith, m.1, seek_le g.rows 0 test m.0 (omega arith) (eq-eqb _ _ (sym m.2))))
+      (λ z. absurd (omega arith))
+      (max_at g.rows (cell_at g.rows cells t)) in
       record {
-        row_in = hk;
-        in_time = omega arith;
-        some = p;
-        cell = subst (λ (v : ℕ). IsBestFrom g k t v) e (table.right t k (omega arith) hk);
-        fuel = t;
-        enough = omega arith;
-        whole = begins (omega (arith, demand_same)) k most first_same demand_same;
+        row_in = row;
+        cell = λ p.
+            let e : cell_at g.rows cells t k ≡ most = eqb-true _ _ (seek_hit g.rows 0 test (omega (arith, row p))) in
+            subst (λ (v : ℕ). IsBestFrom g k t v) e (table.right t k (omega arith) (row p));
       }
 
-  -- ---- on the way
-
   -- a follower leads on in the cells exactly when it does by the definition
-  leads_same : (s k r j : ℕ) → s ≤ t → g.length k < r → j < g.rows → leads (g.gap k) (cell_at g.rows cells) s (r - g.length k) j ≡ goes_on g s k r j
-  leads_same s k r j l more h =
+  leads_same : (k r j : ℕ) → g.length k < r → j < g.rows → leads (g.gap k) (cell_at g.rows cells) t (r - g.length k) j ≡ goes_on g t k r j
+  leads_same k r j more h =
       ⊎_elim
       (λ p.
       ⊎_elim
-      (λ q. rw (via_take (g.gap k) (cell_at g.rows cells) s j p.0 q.0, p.1, q.1, cell_is (s - g.gap k j) j (omega arith) h))
-      (λ q. rw (via_late (g.gap k) (cell_at g.rows cells) s j q.0, p.1, q.1) (nothing r k more))
-      (le_or (g.gap k j) s))
-      (λ p. rw (via_none (g.gap k) (cell_at g.rows cells) s j (omega (arith, p.0)), p.1) (nothing r k more))
+      (λ q. rw (via_take (g.gap k) (cell_at g.rows cells) t j p.0 q.0, p.1, q.1, cell_is (t - g.gap k j) j (omega arith) h))
+      (λ q. rw (via_late (g.gap k) (cell_at g.rows cells) t j q.0, p.1, q.1) nothing)
+      (le_or (g.gap k j) t))
+      (λ p. rw (via_none (g.gap k) (cell_at g.rows cells) t j (omega (arith, p.0)), p.1) nothing)
       (le_or 1 (g.gap k j))
     where
-      nothing : (r k : ℕ) → g.length k < r → eqb 0 (r - g.length k) ≡ false
-      nothing r k more = ne_eqb 0 (r - g.length k) (λ e. omega (arith, e))
+      nothing : eqb 0 (r - g.length k) ≡ false
+      nothing = ne_eqb 0 (r - g.length k) (λ e. omega (arith, e))
 
-  -- a step to the next row, where the work left is more than the row's own
-  module _ (before : List ℕ) (stand : Stand) (way : OnWay g t before stand) (l : g.length stand.row < stand.work) where
-    -- where the witness stands next
+-- a row is passed
+module _ (g : Graph) (sound : Sound g) (cells : List ℕ) (stand : Stand) (table : HasLines g.rows (ByInterval g) cells (stand.left + 1)) (stands : Stands g stand) (some : 0 < stand.work) where
+  -- where the work left is its own, it is the last
+  pub passed_last : stand.work ≤ g.length stand.row → Passed g stand stand.row record { row = stand.row; left = stand.left; work = 0 }
+  unfolding rest_of
+  passed_last l = record {
+    row_in = stands.row_in some;
+    first = rw (lt-leb stand.work 0 some, rest_none g stand.left stand.left stand.row stand.work l);
+    in_time = omega arith;
+    stands = record { row_in = λ p. absurd (omega arith); cell = λ p. absurd (omega arith) };
+  }
+
+  -- where it is more, the witness goes on
+  module _ (l : g.length stand.row < stand.work) where
+    j : ℕ
+    j = on g sound stand.left stand.row stand.work (stands.row_in some) (stands.cell some) l
+
     next : Stand
-    next = onward_of (g.gap stand.row) cells (g.length stand.row) g.rows stand
+    next = record { row = j; left = stand.left - g.gap stand.row j; work = stand.work - g.length stand.row }
 
-    -- there is a row that leads on
-    pub way_found : (onward_of (g.gap stand.row) cells (g.length stand.row) g.rows stand).row < g.rows
-    unfolding onward_of
-    way_found =
-        let s : ℕ = stand.left in
-        let gap : ℕ → ℕ = g.gap stand.row in
-        let test : ℕ → Bool = leads gap (cell_at g.rows cells) s (stand.work - g.length stand.row) in
-        let found = next_row g s stand.row stand.work way.row_in (λ i. cell_at g.rows cells (s - gap i) i)
-        (λ i h p q. table.right (s - gap i) i (omega (arith, way.in_time)) h) way.cell l in
-        let passes : test found.0 ≡ true =
-        eq-eqb _ _ (via_take gap (cell_at g.rows cells) s found.0 found.2 found.3 ∙ found.4) in
-        omega (arith, found.1, seek_le g.rows 0 test found.0 (omega arith) passes)
+    onward_is : onward_of (g.gap stand.row) cells (g.length stand.row) g.rows stand ≡ next
+    unfolding next j on onward_of
+    onward_is =
+        ap (λ (j : ℕ). record { row = j; left = stand.left - g.gap stand.row j; work = stand.work - g.length stand.row })
+        (seek_same g.rows 0 _ _ (λ j _ h. leads_same g sound cells stand.left table stand.row stand.work j l (omega arith)))
 
-    -- its gap fits, and its cell is the rest of the work
-    next_leads : (0 < g.gap stand.row next.row) × (g.gap stand.row next.row ≤ stand.left) × (cell_at g.rows cells next.left next.row ≡ next.work)
-    unfolding next onward_of
-    next_leads = leads_on g.rows (g.gap stand.row) (cell_at g.rows cells) stand.left next.work (omega arith) next.row way_found refl
+    -- to a row of the graph
+    pub passed_found : (onward_of (g.gap stand.row) cells (g.length stand.row) g.rows stand).row < g.rows
+    unfolding next j
+    passed_found = rw onward_is (on_found g sound stand.left stand.row stand.work (stands.row_in some) (stands.cell some) l)
 
-    -- the rows after this one begin with it
-    rest_is : (fuel : ℕ) → way.fuel ≡ suc fuel
-        → rest_within g (suc way.fuel) stand.left stand.row stand.work ≡ next.row ∷ rest_within g (suc fuel) next.left next.row next.work
-    unfolding next onward_of
-    rest_is fuel e =
-        let same : next.row ≡ seek g.rows 0 (goes_on g stand.left stand.row stand.work) =
-        seek_same g.rows 0 _ _ (λ j _ h. leads_same stand.left stand.row stand.work j way.in_time l (omega arith)) in
-        rest_more g way.fuel stand.left stand.row stand.work l next.row same
-        ∙ ap (λ (f : ℕ). next.row ∷ rest_within g f next.left next.row next.work) e
-
-    -- with this row passed the witness goes on from there
-    pub way_next : OnWay g t (before ++ stand.row ∷ []) (onward_of (g.gap stand.row) cells (g.length stand.row) g.rows stand)
-    unfolding next onward_of
-    way_next =
-        let fuel : ℕ = way.fuel - 1 in
-        let in-line : next.left < t + 1 = omega (arith, way.in_time) in
+    passed_next : Passed g stand stand.row next
+    unfolding next j on rest_of
+    passed_next =
+        let row = stands.row_in some in
+        let cell = stands.cell some in
+        let goes = on_goes g sound stand.left stand.row stand.work row cell l in
+        let found = on_found g sound stand.left stand.row stand.work row cell l in
+        let best = on_cell g sound stand.left stand.row stand.work row cell l in
         record {
-          row_in = way_found;
-          in_time = omega (arith, way.in_time);
-          some = omega (arith, l);
-          cell = subst (λ (v : ℕ). IsBestFrom g next.row next.left v) next_leads.2 (table.right next.left next.row in-line way_found);
-          fuel = fuel;
-          enough = omega (arith, next_leads.0, way.enough);
-          whole =
-              append_assoc before (stand.row ∷ []) (next.row ∷ rest_within g (suc fuel) next.left next.row next.work)
-              ∙ ap (λ (w : List ℕ). before ++ stand.row ∷ w) (sym (rest_is fuel (omega (arith, next_leads.0, next_leads.1, way.enough))))
-              ∙ way.whole;
+          row_in = row;
+          first =
+              rw (lt-leb stand.work 0 some, lt-leb (stand.work - g.length stand.row) 0 (omega arith))
+              (ap (λ (rows : List ℕ). stand.row ∷ rows)
+              (rest_more g stand.left stand.left stand.row stand.work l j refl
+              ∙ ap (λ (rows : List ℕ). j ∷ rows) (rest_same g sound stand.left (suc next.left) next.left j next.work (omega (arith, goes)) (omega arith) found best)));
+          in_time = omega arith;
+          stands = record { row_in = λ p. found; cell = λ p. best };
         }
+
+    pub passed_more : Passed g stand stand.row (onward_of (g.gap stand.row) cells (g.length stand.row) g.rows stand)
+    passed_more = rw onward_is passed_next

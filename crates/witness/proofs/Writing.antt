@@ -1,9 +1,9 @@
 -- An area into which a list is written from the front, one number after the other.
 use mathlib.Core.Path.{◌≡◌, refl, sym, ap, ap₂, ◌∙◌}
 use mathlib.Core.List.{List, [], ◌∷◌, ◌++◌, append_assoc}
-use Prim.Native.Nat.{ℕ, suc, ◌+◌, ◌≤◌, ◌<◌}
+use Prim.Native.Nat.{ℕ, suc, ◌+◌, ◌<◌}
 use native.Mathlib.Omega.{arith}
-use lib.ListN.{length, get_or, drop, set, length-append, length-drop}
+use lib.ListN.{length, get_or, drop, set, length-append}
 use lib.Seq.{drop-cons, set-append_seam}
 use Rattle.witness.specs.Stands.{Written}
 
@@ -12,11 +12,6 @@ pub written_none : (old : List ℕ) → Written [] old old 0
 written_none old = record { counted = refl; is = refl }
 
 module _ (list old new : List ℕ) (count : ℕ) (written : Written list old new count) where
-  -- an area with room for the list keeps its length
-  pub written_length : length list ≤ length old → length new ≡ length old
-  written_length h =
-      ap length written.is ∙ length-append list (drop (length list) old) ∙ omega (arith, length-drop (length list) old)
-
   -- one number more
   pub written_more : (v : ℕ) → length list < length old → Written (list ++ v ∷ []) old (set new count v) (count + 1)
   written_more v h =

@@ -1,9 +1,11 @@
 -- Where a witness stands while it is found, and what is written of it.
-use Rattle.std.specs.Prelude.{ℕ, ◌-◌, Bool, List, ◌++◌, ◌≡◌, eqb, length, drop}
-use Rattle.meaning.specs.Computed.{max_below, seek, cell_at, via_at}
+use Rattle.std.specs.Prelude.{ℕ, suc, ◌-◌, ◌≤◌, ◌<◌, Bool, List, [], ◌∷◌, ◌++◌, ◌≡◌, cond, leb, eqb, length, drop, Result, Ok, Err}
+use Rattle.meaning.specs.Graph.{Graph}
+use Rattle.meaning.specs.Cells.{IsBestFrom}
+use Rattle.meaning.specs.Computed.{max_below, seek, cell_at, via_at, rest_within}
 use Rattle.beginning.specs.Showing.{WitnessShown}
-use Rattle.witness.specs.declared.Shown.{Shown}
-use Rattle.witness.specs.declared.Shown.TheVariants.{Rows, TooLong}
+use Rattle.fields.specs.declared.refusal.Reason.{Reason}
+use Rattle.fields.specs.declared.refusal.Reason.TheVariants.{ShortArea}
 use Rattle.witness.specs.declared.Stand.{Stand}
 
 -- row j leads on with s left: it adds just the work wanted
@@ -29,11 +31,29 @@ onward_of gap cells own n stand =
     let next = seek n 0 (leads gap (cell_at n cells) stand.left (stand.work - own)) in
     record { row = next; left = stand.left - gap next; work = stand.work - own }
 
+-- the rows from where it stands on, none where no work is left
+unfoldable pub rest_of : Graph → Stand → List ℕ
+rest_of g stand =
+    let rest = stand.row ∷ rest_within g (suc stand.left) stand.left stand.row stand.work in
+    cond (leb stand.work 0) [] rest
+
+-- where work is left, it is the cell of the row in the line of the time that is left
+pub record Stands (g : Graph) (stand : Stand) : Type 0 where
+  pub row_in : 0 < stand.work → stand.row < g.rows
+  pub cell : 0 < stand.work → IsBestFrom g stand.row stand.left stand.work
+
+-- a row was passed: it is the first of those to come, and the witness stands behind it
+pub record Passed (g : Graph) (old : Stand) (row : ℕ) (new : Stand) : Type 0 where
+  pub row_in : row < g.rows
+  pub first : rest_of g old ≡ row ∷ rest_of g new
+  pub in_time : new.left ≤ old.left
+  pub stands : Stands g new
+
 -- a list and its count were written into an area, of which the rest is kept
 pub record Written (list old new : List ℕ) (count : ℕ) : Type 0 where
   pub counted : count ≡ length list
   pub is : new ≡ list ++ drop (length list) old
 
 -- a witness was shown in an area, or does not fit it
-abbrev pub IsShown : List ℕ → List ℕ → Shown → List ℕ → Type 0
-IsShown witness area = WitnessShown witness area (Rows (length witness)) TooLong
+abbrev pub IsShown : List ℕ → List ℕ → Result ℕ Reason → List ℕ → Type 0
+IsShown witness area = WitnessShown witness area (Ok (length witness)) (Err ShortArea)

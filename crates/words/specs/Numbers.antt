@@ -1,7 +1,5 @@
 -- When a word is a number, and which.
-use Rattle.std.specs.Prelude.{ℕ, zero, suc, ◌+◌, ◌-◌, ◌*◌, ◌≤◌, ◌<◌, ◌≡◌, List, length, get_or}
-use Rattle.words.specs.declared.Word.{Word}
-use Rattle.words.specs.declared.Word.TheVariants.{Number, NoNumber}
+use Rattle.std.specs.Prelude.{ℕ, zero, suc, ◌+◌, ◌-◌, ◌*◌, ◌≤◌, ◌<◌, ◌≡◌, List, length, get_or, Option, Some, None}
 
 -- a decimal digit, from `0` to `9`
 abbrev pub IsDigit : ℕ → Type 0
@@ -24,6 +22,6 @@ value_upto word zero = 0
 value_upto word (suc count) = value_upto word count * 10 + (get_or word count 0 - 48)
 
 -- what is rightly said of a word: which number it is, or that it is none
-abbrev pub Says : List ℕ → Word → Type 0
-Says word (Number value) = IsNumber word × (value ≡ value_upto word (length word))
-Says word NoNumber = IsNumber word → ⊥
+abbrev pub Says : List ℕ → Option ℕ → Type 0
+Says word (Some value) = IsNumber word × (value ≡ value_upto word (length word))
+Says word None = IsNumber word → ⊥

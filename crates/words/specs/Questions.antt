@@ -1,9 +1,7 @@
 -- Which question a word names: the first of a program's words.
-use Rattle.std.specs.Prelude.{ℕ, ◌≡◌, List, [], ◌∷◌}
+use Rattle.std.specs.Prelude.{ℕ, ◌≡◌, List, [], ◌∷◌, Option, Some, None}
 use Rattle.words.specs.declared.Question as question
 use Rattle.words.specs.declared.Question.TheVariants.{Fits, Curve, Chart, At, Shortest}
-use Rattle.words.specs.declared.Asked.{Asked}
-use Rattle.words.specs.declared.Asked.TheVariants as asked-case
 
 -- the name of a question, in ASCII: `fits`, `curve`, `chart`, `at`, `shortest`
 abbrev pub name_of : question.Question → List ℕ
@@ -14,6 +12,6 @@ name_of At = 97 ∷ 116 ∷ []
 name_of Shortest = 115 ∷ 104 ∷ 111 ∷ 114 ∷ 116 ∷ 101 ∷ 115 ∷ 116 ∷ []
 
 -- what is rightly said of a word: whose name it is, or that it is no question's
-abbrev pub Names : List ℕ → Asked → Type 0
-Names word (asked-case.Question question) = word ≡ name_of question
-Names word asked-case.NoQuestion = (question : question.Question) → word ≡ name_of question → ⊥
+abbrev pub Names : List ℕ → Option question.Question → Type 0
+Names word (Some question) = word ≡ name_of question
+Names word None = (question : question.Question) → word ≡ name_of question → ⊥

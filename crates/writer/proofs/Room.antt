@@ -1,13 +1,17 @@
 -- How much output a caller can count on to be enough.
 use Prim.Native.Nat.{ℕ, ◌≤◌}
 use native.Mathlib.Omega.{arith}
-use mathlib.Core.Path.{◌≡◌, ◌∙◌, refl, sym}
+use mathlib.Core.Path.{◌≡◌, ◌∙◌, refl, sym, ap}
+use mathlib.Core.Bool.{true≢false}
 use mathlib.Core.List.{List}
 use lib.ListN.{length}
 use borrow.Author.Tests.{le-ltb}
+use Rattle.std.specs.Prelude.{Result, Ok, is_ok}
+use Rattle.fields.specs.Refusals.{refused}
+use Rattle.fields.specs.declared.refusal.Reason.TheVariants.{ShortOutput}
+use Rattle.fields.specs.declared.refusal.Refusal.{Refusal}
 use Rattle.sheet.specs.Judging.{judged}
-use Rattle.sheet.specs.declared.Answer.{Answer}
-use Rattle.sheet.specs.declared.Answer.TheVariants as sheet-case
+use Rattle.sheet.specs.Answer.{Answer, Accepted, Refused}
 use Rattle.sheet.proofs.Refusals.{refused_number}
 use Rattle.beginning.specs.Beginning.{Begins}
 use Rattle.beginning.proofs.Beginnings.{comes_to_answer}
@@ -16,23 +20,20 @@ use Rattle.written.specs.Written.{written}
 use Rattle.written.proofs.JudgedWritten.{accepted_kept}
 use Rattle.written.proofs.Sizes.{most_written, written_most}
 use Rattle.writer.specs.Calls.{write_rules, WriteRefuses, WriteGives, WriteCall}
-use Rattle.writer.specs.declared.WriteAnswer.{WriteAnswer}
-use Rattle.writer.specs.declared.WriteAnswer.TheVariants.{Written, Refused}
 
 -- an output of as many bytes as are written at most is never too short
-pub output_suffices : (values : Values) (output : List ℕ) (answer : WriteAnswer) (output' : List ℕ) → most_written ≤ length output → WriteCall values output answer output'
-    → answer ≡ Refused 15 0 → ⊥
+pub output_suffices : (values : Values) (output : List ℕ) (answer : Result ℕ Refusal) (output' : List ℕ) → most_written ≤ length output → WriteCall values output answer output'
+    → answer ≡ refused ShortOutput 0 → ⊥
 output_suffices values output answer output' enough call = go (judged (written values)).answer refl call
   where
     go : (said : Answer) → (judged (written values)).answer ≡ said
-        → Begins said (write_rules values output) (WriteRefuses output answer output') (WriteGives values output answer output') → answer ≡ Refused 15 0 → ⊥
-    go (sheet-case.Refused number place) told refuses short =
-        let both : Refused number 0 ≡ Refused 15 0 = sym refuses.0 ∙ short in
-        let same : number ≡ 15 = cc in
-        omega (arith, refused_number (written values) number place told)
-    go sheet-case.Accepted told promise short =
+        → Begins said (write_rules values output) (WriteRefuses output answer output') (WriteGives values output answer output') → answer ≡ refused ShortOutput 0 → ⊥
+    go (Refused reason place) told refuses short =
+        let both : refused {A = ℕ} reason 0 ≡ refused ShortOutput 0 = sym refuses.0 ∙ short in
+        let same : ◌≡◌ {A = Refusal} (record { reason = reason; place = 0 }) (record { reason = ShortOutput; place = 0 }) = cc in
+        omega (arith, rw (ap (λ (refusal : Refusal). refusal.reason) same) at (refused_number (written values) reason place told))
+    go Accepted told promise short =
         let room : length (written values) ≤ length output = omega (arith, written_most values (accepted_kept values told)) in
-        let gives = comes_to_answer sheet-case.Accepted (write_rules values output) (WriteRefuses output answer output') (WriteGives values output answer output') refl (le-ltb _ _ room, tt) promise in
-        let both : Written (length (written values)) ≡ Refused 15 0 = sym gives.0 ∙ short in
-        let z : ◌≡◌ {A = ℕ} 0 1 = cc in
-        omega arith
+        let gives = comes_to_answer Accepted (write_rules values output) (WriteRefuses output answer output') (WriteGives values output answer output') refl (le-ltb _ _ room, tt) promise in
+        let both : Ok (length (written values)) ≡ refused ShortOutput 0 = sym gives.0 ∙ short in
+        true≢false (ap is_ok both)

@@ -1,18 +1,19 @@
 -- An answer of `write`, and a sheet's values by number, as the structs that C is given.
+use Rattle.std.specs.Prelude.{ℕ, Result, Ok, Err}
+use Rattle.fields.specs.Refusals.{rule_number}
+use Rattle.fields.specs.declared.refusal.Refusal.{Refusal}
 use Rattle.fields.specs.declared.values.Mode.{Mode}
 use Rattle.fields.specs.declared.values.Task.{Task}
 use Rattle.contents.specs.declared.RowValues.{RowValues}
-use Rattle.writer.specs.declared.WriteAnswer.{WriteAnswer}
-use Rattle.writer.specs.declared.WriteAnswer.TheVariants.{Written, Refused}
 use Rattle.writer_numbers.specs.declared.WriteForC.{WriteForC}
 use Rattle.writer_numbers.specs.declared.ModeForC.{ModeForC}
 use Rattle.writer_numbers.specs.declared.RowForC.{RowForC}
 use Rattle.writer_numbers.specs.declared.TaskForC.{TaskForC}
 
 -- how many bytes were written, or why none was
-abbrev pub flat_written : WriteAnswer → WriteForC
-flat_written (Written size) = record { number = 0; place = 0; size = size }
-flat_written (Refused number place) = record { number = number; place = place; size = 0 }
+abbrev pub flat_written : Result ℕ Refusal → WriteForC
+flat_written (Ok size) = record { number = 0; place = 0; size = size }
+flat_written (Err refusal) = record { number = rule_number refusal.reason; place = refusal.place; size = 0 }
 
 -- a mode, a row and a fixed task as numbers
 abbrev pub flat_mode : Mode → ModeForC

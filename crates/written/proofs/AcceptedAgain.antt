@@ -8,6 +8,7 @@ use lib.Dec.{eqb}
 use lib.ListN.{length, take, drop, length-drop, take-append-drop}
 use lib.Seq.{length-take-le}
 use borrow.Author.Tests.{eq-eqb}
+use Rattle.std.specs.Prelude.{Ok}
 use Rattle.fields.specs.Deciding.{Rule, ◌when◌, pick, first_broken}
 use Rattle.fields.specs.Fields.{line_of, fields, kind_of}
 use Rattle.fields.specs.Reading.{word_at, mode_at, row_at, task_at}
@@ -18,8 +19,7 @@ use Rattle.sheet.specs.Judging.{refusal, head_rules, own_rules, field_rules, wit
 use Rattle.sheet.specs.Proper.{Bytes}
 use Rattle.fields.specs.declared.values.Tally.{Tally}
 use Rattle.fields.specs.declared.values.Sheet.{Sheet}
-use Rattle.sheet.specs.declared.Answer.TheVariants.{Accepted}
-use Rattle.sheet.specs.declared.Judged.{Judged}
+use Rattle.sheet.specs.Answer.{Accepted, Judged}
 use Rattle.fields.proofs.Deciding.{Kept}
 use Rattle.sheet.proofs.Keeping.{Keeps, judged_keeps}
 use Rattle.sheet.proofs.Numbered.{common_says, row_length}
@@ -28,7 +28,7 @@ use Rattle.written.specs.Judging.{no_tally, entry_rules, count_entry, entries_ru
 use Rattle.written.specs.Reading.{values_in, values_of}
 use Rattle.written.specs.Values.{Entry, LabelEntry, ModeEntry, TaskEntry, entries}
 use Rattle.written.specs.Written.{tag_of, content_of, written}
-use Rattle.written.proofs.Columns.{values_entries}
+use Rattle.written.proofs.InColumns.{values_entries}
 use Rattle.written.proofs.Entered.{InOrder, Entered, empty_in_order, none_entered, label_before, with_label_lem, with_mode_lem, with_row_lem, with_task_lem}
 use Rattle.written.proofs.EntriesKept.{rules_both, count_both}
 use Rattle.written.proofs.EntryFields.{entry_judged}
@@ -42,24 +42,24 @@ use Rattle.written.proofs.ShortNumbers.{either_way, short_right, task_short_righ
 kept_leaves : (place : ℕ) (rules : List Rule) (ok : Judged) → Kept rules → checked place rules ok ≡ ok
 unfolding pick
 kept_leaves place [] ok kept = refl
-kept_leaves place (n when true ∷ rules) ok kept = absurd (true≢false kept.0)
-kept_leaves place (n when false ∷ rules) ok kept = kept_leaves place rules ok kept.1
+kept_leaves place (reason when true ∷ rules) ok kept = absurd (true≢false kept.0)
+kept_leaves place (reason when false ∷ rules) ok kept = kept_leaves place rules ok kept.1
 
 leaves_kept : (place : ℕ) (rules : List Rule) (sheet : Sheet) → (checked place rules (record { answer = Accepted; sheet = sheet })).answer ≡ Accepted → Kept rules
 unfolding pick refusal
 leaves_kept place [] sheet e = tt
-leaves_kept place (n when true ∷ rules) sheet e = let z : ◌≡◌ {A = ℕ} 0 1 = cc in absurd (omega arith)
-leaves_kept place (n when false ∷ rules) sheet e = (refl, leaves_kept place rules sheet e)
+leaves_kept place (reason when true ∷ rules) sheet e = let z : ◌≡◌ {A = ℕ} 0 1 = cc in absurd (omega arith)
+leaves_kept place (reason when false ∷ rules) sheet e = (refl, leaves_kept place rules sheet e)
 
-kept_none : (rules : List Rule) → Kept rules → first_broken rules ≡ 0
+kept_none : (rules : List Rule) → Kept rules → first_broken rules ≡ Ok tt
 unfolding first_broken pick
 kept_none [] kept = refl
-kept_none (n when true ∷ rules) kept = absurd (true≢false kept.0)
-kept_none (n when false ∷ rules) kept = kept_none rules kept.1
+kept_none (reason when true ∷ rules) kept = absurd (true≢false kept.0)
+kept_none (reason when false ∷ rules) kept = kept_none rules kept.1
 
 kept_both : (first behind : List Rule) → Kept first → Kept behind → Kept (first ++ behind)
 kept_both [] behind a b = b
-kept_both (n when test ∷ first) behind a b = (a.0, kept_both first behind a.1 b)
+kept_both (reason when test ∷ first) behind a b = (a.0, kept_both first behind a.1 b)
 
 -- the first rules are kept with another length too, where rule 5 allows it
 other_length : (tag last size other count : ℕ) → Kept (common_rules tag last size false count) → wrong_length tag other ≡ false → Kept (common_rules tag last other false count)
@@ -135,11 +135,11 @@ module _ (bytes : List ℕ) (fit : Bytes bytes) where
       record { order = empty_in_order; counted = rw none refl; kept = rw none tt }
 
   abbrev Answers : Judged → Type 0
-  Answers answer = answer.answer ≡ Accepted → first_broken (values_rules (values_in bytes answer.sheet)) ≡ 0
+  Answers answer = answer.answer ≡ Accepted → first_broken (values_rules (values_in bytes answer.sheet)) ≡ Ok tt
 
   -- at the end field the entries are those of the values, and rule 9 is kept by their sets
   ended : (sheet : Sheet) → SoFar sheet → out_of_order sheet.tally.last 5 ≡ false → unknown_follower sheet.rows sheet.tally.rows ≡ false
-      → first_broken (values_rules (values_in bytes sheet)) ≡ 0
+      → first_broken (values_rules (values_in bytes sheet)) ≡ Ok tt
   unfolding values_rules end_rules common_rules wrong_length full line_of fields pick values_in
   ended sheet so_far in_order followers =
       let same : entries (values_in bytes sheet) ≡ entries_in bytes sheet = values_entries bytes sheet (label_before _ 5 in_order (omega arith)) in
@@ -153,7 +153,7 @@ module _ (bytes : List ℕ) (fit : Bytes bytes) where
   values_keep =
       record {
         none = nothing_read;
-        refused = λ n place o inside e. let z : ◌≡◌ {A = ℕ} 0 1 = cc in absurd (omega arith);
+        refused = λ reason place o inside e. let z : ◌≡◌ {A = ℕ} 0 1 = cc in absurd (omega arith);
         label = λ sheet at start size next e p common own.
             let inside : start + size ≤ length bytes = omega (arith, field_in bytes at _ start size next e) in
             let entry = LabelEntry (take size (drop start bytes)) in
@@ -172,7 +172,7 @@ module _ (bytes : List ℕ) (fit : Bytes bytes) where
       }
 
   -- the values of an accepted file break no rule
-  pub values_kept : (judged bytes).answer ≡ Accepted → first_broken (values_rules (values_of bytes)) ≡ 0
+  pub values_kept : (judged bytes).answer ≡ Accepted → first_broken (values_rules (values_of bytes)) ≡ Ok tt
   unfolding values_of
   values_kept = judged_keeps bytes (λ _ sheet. SoFar sheet) Answers values_keep
 

@@ -6,19 +6,10 @@ use native.Mathlib.Omega.{arith}
 use mathlib.Core.Path.{◌≡◌, ◌∙◌, refl, sym, ap}
 use mathlib.Core.List.{List, [], ◌∷◌, ◌++◌}
 use mathlib.Core.Bool.{Bool, true, false, ◌||◌}
+use Rattle.std.specs.Prelude.{Ok}
 use Rattle.fields.specs.Deciding.{Rule, ◌when◌, pick, first_broken, any_from}
 use Rattle.sheet.specs.Judging.{checked}
-use Rattle.sheet.specs.declared.Judged.{Judged}
-
--- two scans that see the same, each from its own place on
-pub any_alike : (f g : ℕ → Bool) (i k n : ℕ) → ((j : ℕ) → j < n → f (i + j) ≡ g (k + j)) → any_from f i n ≡ any_from g k n
-unfolding any_from pick
-any_alike f g i k zero alike = refl
-any_alike f g i k (suc n) alike =
-    let here : f i ≡ g k = ap f (sym (add-zero i)) ∙ alike 0 (zero-lt-suc n) ∙ ap g (add-zero k) in
-    let behind : (j : ℕ) → j < n → f (suc i + j) ≡ g (suc k + j) =
-    λ j h. ap f (suc-add i j ∙ sym (add-suc i j)) ∙ alike (suc j) (omega arith) ∙ ap g (add-suc k j ∙ sym (suc-add k j)) in
-    rw (here, any_alike f g (suc i) (suc k) n behind) refl
+use Rattle.sheet.specs.Answer.{Judged}
 
 -- a scan with one number more at its end
 either_last : (first rest last : Bool) → pick first true (rest || last) ≡ (pick first true rest || last)
@@ -42,22 +33,22 @@ pub any_further : (f : ℕ → Bool) (n : ℕ) (so_far here : Bool) → so_far �
 any_further f n so_far here scanned told = rw (add-one n, any_last f 0 n, zero-add n, ← scanned, ← told) refl
 
 -- what is left to judge counts only where no rule is broken
-pub checked_alike : (place : ℕ) (rules : List Rule) (ok other : Judged) → (first_broken rules ≡ 0 → ok ≡ other) → checked place rules ok ≡ checked place rules other
+pub checked_alike : (place : ℕ) (rules : List Rule) (ok other : Judged) → (first_broken rules ≡ Ok tt → ok ≡ other) → checked place rules ok ≡ checked place rules other
 unfolding first_broken pick
 checked_alike place [] ok other alike = alike refl
-checked_alike place (n when true ∷ rules) ok other alike = refl
-checked_alike place (n when false ∷ rules) ok other alike = checked_alike place rules ok other alike
+checked_alike place (reason when true ∷ rules) ok other alike = refl
+checked_alike place (reason when false ∷ rules) ok other alike = checked_alike place rules ok other alike
 
 -- rules behind others, at one place
 pub checked_both : (place : ℕ) (first behind : List Rule) (ok : Judged) → checked place (first ++ behind) ok ≡ checked place first (checked place behind ok)
 unfolding pick
 checked_both place [] behind ok = refl
-checked_both place (n when true ∷ first) behind ok = refl
-checked_both place (n when false ∷ first) behind ok = checked_both place first behind ok
+checked_both place (reason when true ∷ first) behind ok = refl
+checked_both place (reason when false ∷ first) behind ok = checked_both place first behind ok
 
 -- and at two places: the first broken rule says at which
 pub checked_one : (p q : ℕ) (first behind : List Rule) (ok : Judged) → (place : ℕ) × (checked p first (checked q behind ok) ≡ checked place (first ++ behind) ok)
 unfolding pick
 checked_one p q [] behind ok = (q, refl)
-checked_one p q (n when true ∷ first) behind ok = (p, refl)
-checked_one p q (n when false ∷ first) behind ok = checked_one p q first behind ok
+checked_one p q (reason when true ∷ first) behind ok = (p, refl)
+checked_one p q (reason when false ∷ first) behind ok = checked_one p q first behind ok

@@ -4,35 +4,25 @@ use native.Mathlib.Omega.{arith}
 use mathlib.Core.Path.{◌≡◌, ◌∙◌, refl, sym, ap}
 use mathlib.Core.List.{List, [], ◌∷◌, ◌++◌, append_assoc}
 use mathlib.Core.Bool.{true, false}
-use lib.Dec.{T}
 use lib.ListN.{length}
+use Rattle.std.specs.Prelude.{Ok}
 use Rattle.fields.specs.Deciding.{Rule, ◌when◌, pick, first_broken}
 use Rattle.fields.specs.Fields.{line_of, fields}
 use Rattle.fields.specs.Limits.{mode_limit, row_limit, task_limit, label_limit}
-use Rattle.fields.specs.Values.{short_size}
-use Rattle.rules.specs.Rules.{out_of_order, follower_count, common_rules, text_rules, row_rules}
+use Rattle.rules.specs.Rules.{out_of_order, follower_count, common_rules}
 use Rattle.fields.specs.declared.units.Rpm.{Rpm}
 use Rattle.fields.specs.declared.units.Ticks.{Ticks}
 use Rattle.fields.specs.declared.values.Mode.{Mode}
 use Rattle.fields.specs.declared.values.Task.{Task}
 use Rattle.fields.specs.declared.values.Tally.{Tally}
-use Rattle.fields.proofs.Deciding.{Kept, numbered, all_kept, both_kept, both_numbered, pass}
-use Rattle.sheet.proofs.Numbered.{mode_numbered_lem, task_numbered_lem, common_says, row_length}
+use Rattle.fields.proofs.Deciding.{Kept, all_kept, both_kept, pass}
+use Rattle.sheet.proofs.Numbered.{common_says, row_length}
 use Rattle.written.specs.Judging.{row_size, entry_rules, count_entry, entries_rules, count_entries, no_tally, unknown_among, end_rules, values_rules}
-use Rattle.written.specs.Values.{Values, Entry, LabelEntry, ModeEntry, RowEntry, TaskEntry, CutEntry, entries}
+use Rattle.written.specs.Values.{Values, Entry, LabelEntry, ModeEntry, RowEntry, TaskEntry, entries}
 use Rattle.written.proofs.FieldBytes.{short_enough}
 
--- every rule has a number with which a file is refused
-pub entry_numbered : (tally : Tally) (entry : Entry) → T (numbered (entry_rules tally entry))
-unfolding entry_rules common_rules text_rules row_rules
-entry_numbered tally (LabelEntry text) = tt
-entry_numbered tally (ModeEntry mode) = mode_numbered_lem tally mode (short_size mode)
-entry_numbered tally (RowEntry speed deadline followers gaps) = tt
-entry_numbered tally (TaskEntry task) = task_numbered_lem task
-entry_numbered tally (CutEntry tag) = tt
-
-pub entry_kept : (tally : Tally) (entry : Entry) → first_broken (entry_rules tally entry) ≡ 0 → Kept (entry_rules tally entry)
-entry_kept tally entry none = all_kept (entry_rules tally entry) (entry_numbered tally entry) none
+pub entry_kept : (tally : Tally) (entry : Entry) → first_broken (entry_rules tally entry) ≡ Ok tt → Kept (entry_rules tally entry)
+entry_kept tally entry none = all_kept (entry_rules tally entry) none
 
 -- what kept rules say of each kind: a label is short enough, a row has a gap for each follower and not too many, and there was room for one more
 module _ (tally : Tally) where
@@ -55,33 +45,20 @@ module _ (tally : Tally) where
   unfolding entry_rules line_of fields
   task_says task kept = (common_says _ _ _ _ _ (both_kept (common_rules 4 _ _ _ _) _ kept).0).3
 
-pub entries_numbered : (tally : Tally) (entries : List Entry) → T (numbered (entries_rules tally entries))
-unfolding entries_rules
-entries_numbered tally [] = tt
-entries_numbered tally (entry ∷ more) = both_numbered (entry_rules tally entry) _ (entry_numbered tally entry) (entries_numbered (count_entry tally entry) more)
-
-pub entries_kept : (tally : Tally) (entries : List Entry) → first_broken (entries_rules tally entries) ≡ 0 → Kept (entries_rules tally entries)
-entries_kept tally entries none = all_kept (entries_rules tally entries) (entries_numbered tally entries) none
-
-pub end_numbered : (tally : Tally) (sets : List ℕ) → T (numbered (end_rules tally sets))
-unfolding end_rules common_rules
-end_numbered tally sets = tt
-
-pub values_numbered : (values : Values) → T (numbered (values_rules values))
-unfolding values_rules
-values_numbered values = both_numbered (entries_rules no_tally (entries values)) _ (entries_numbered no_tally (entries values)) (end_numbered _ values.sets)
+pub entries_kept : (tally : Tally) (entries : List Entry) → first_broken (entries_rules tally entries) ≡ Ok tt → Kept (entries_rules tally entries)
+entries_kept tally entries none = all_kept (entries_rules tally entries) none
 
 -- rules one behind the other: none of the first is broken, and none behind
-first_none : (first behind : List Rule) → first_broken (first ++ behind) ≡ 0 → first_broken first ≡ 0
+first_none : (first behind : List Rule) → first_broken (first ++ behind) ≡ Ok tt → first_broken first ≡ Ok tt
 unfolding first_broken pick
 first_none [] behind none = refl
-first_none (n when true ∷ first) behind none = none
-first_none (n when false ∷ first) behind none = first_none first behind none
+first_none (reason when true ∷ first) behind none = none
+first_none (reason when false ∷ first) behind none = first_none first behind none
 
-pub both_none : (first behind : List Rule) → T (numbered first) → first_broken (first ++ behind) ≡ 0 → (first_broken first ≡ 0) × (first_broken behind ≡ 0)
-both_none first behind t none =
+pub both_none : (first behind : List Rule) → first_broken (first ++ behind) ≡ Ok tt → (first_broken first ≡ Ok tt) × (first_broken behind ≡ Ok tt)
+both_none first behind none =
     let front = first_none first behind none in
-    (front, pass first behind (first_broken first) refl (first_broken behind) t front refl ∙ none)
+    (front, pass first behind (first_broken behind) (sym front) refl ∙ none)
 
 -- the rules of two stretches
 pub rules_both : (tally : Tally) (stretch more : List Entry)
@@ -98,30 +75,30 @@ count_both tally [] more = refl
 count_both tally (entry ∷ stretch) more = count_both (count_entry tally entry) stretch more
 
 -- an entry and those behind it
-pub entries_none : (tally : Tally) (entry : Entry) (more : List Entry) → first_broken (entries_rules tally (entry ∷ more)) ≡ 0
-    → (first_broken (entry_rules tally entry) ≡ 0) × (first_broken (entries_rules (count_entry tally entry) more) ≡ 0)
+pub entries_none : (tally : Tally) (entry : Entry) (more : List Entry) → first_broken (entries_rules tally (entry ∷ more)) ≡ Ok tt
+    → (first_broken (entry_rules tally entry) ≡ Ok tt) × (first_broken (entries_rules (count_entry tally entry) more) ≡ Ok tt)
 unfolding entries_rules
-entries_none tally entry more none = both_none (entry_rules tally entry) _ (entry_numbered tally entry) none
+entries_none tally entry more none = both_none (entry_rules tally entry) _ none
 
 -- and two stretches of them
-pub stretches_none : (tally : Tally) (stretch more : List Entry) → first_broken (entries_rules tally (stretch ++ more)) ≡ 0
-    → (first_broken (entries_rules tally stretch) ≡ 0) × (first_broken (entries_rules (count_entries tally stretch) more) ≡ 0)
-stretches_none tally stretch more none = both_none (entries_rules tally stretch) _ (entries_numbered tally stretch) (rw (rules_both tally stretch more) at none)
+pub stretches_none : (tally : Tally) (stretch more : List Entry) → first_broken (entries_rules tally (stretch ++ more)) ≡ Ok tt
+    → (first_broken (entries_rules tally stretch) ≡ Ok tt) × (first_broken (entries_rules (count_entries tally stretch) more) ≡ Ok tt)
+stretches_none tally stretch more none = both_none (entries_rules tally stretch) _ (rw (rules_both tally stretch more) at none)
 
 module _ (values : Values) where
-  values_none : first_broken (values_rules values) ≡ 0
-      → (first_broken (entries_rules no_tally (entries values)) ≡ 0) × (first_broken (end_rules (count_entries no_tally (entries values)) values.sets) ≡ 0)
+  values_none : first_broken (values_rules values) ≡ Ok tt
+      → (first_broken (entries_rules no_tally (entries values)) ≡ Ok tt) × (first_broken (end_rules (count_entries no_tally (entries values)) values.sets) ≡ Ok tt)
   unfolding values_rules
-  values_none none = both_none (entries_rules no_tally (entries values)) _ (entries_numbered no_tally (entries values)) none
+  values_none none = both_none (entries_rules no_tally (entries values)) _ none
 
   -- no rule of a field is broken
-  pub kept_written : first_broken (values_rules values) ≡ 0 → first_broken (entries_rules no_tally (entries values)) ≡ 0
+  pub kept_written : first_broken (values_rules values) ≡ Ok tt → first_broken (entries_rules no_tally (entries values)) ≡ Ok tt
   kept_written none = (values_none none).0
 
   -- the end field is in order, and each set names rows that exist
-  pub end_written : first_broken (values_rules values) ≡ 0
+  pub end_written : first_broken (values_rules values) ≡ Ok tt
       → (out_of_order (count_entries no_tally (entries values)).last 5 ≡ false) × (unknown_among values.sets (count_entries no_tally (entries values)).rows ≡ false)
   unfolding end_rules common_rules
   end_written none =
-      let kept = all_kept _ (end_numbered (count_entries no_tally (entries values)) values.sets) (values_none none).1 in
+      let kept = all_kept _ (values_none none).1 in
       (kept.0, kept.1.1.1.1.0)

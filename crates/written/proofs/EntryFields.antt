@@ -25,13 +25,14 @@ use Rattle.fields.specs.declared.values.Mode.{Mode}
 use Rattle.fields.specs.declared.values.Row.{Row}
 use Rattle.fields.specs.declared.values.Task.{Task}
 use Rattle.fields.specs.declared.values.Sheet.{Sheet}
-use Rattle.sheet.specs.declared.Judged.{Judged}
+use Rattle.sheet.specs.Answer.{Judged}
 use Rattle.fields.proofs.Deciding.{all_kept}
-use Rattle.sheet.proofs.Numbered.{common_numbered, common_says, row_length}
+use Rattle.sheet.proofs.Numbered.{common_says, row_length}
 use Rattle.written.specs.Judging.{row_size, one_shorter, entry_rules}
 use Rattle.written.specs.Values.{Entry, LabelEntry, ModeEntry, RowEntry, TaskEntry, CutEntry}
 use Rattle.written.specs.Written.{words, mode_numbers, task_numbers, tag_of, content_of}
-use Rattle.written.proofs.Alike.{any_alike, checked_alike, checked_both}
+use Rattle.fields.proofs.AnyFrom.{any_alike}
+use Rattle.written.proofs.Alike.{checked_alike, checked_both}
 use Rattle.written.proofs.Here.{byte_here, on_here, word_here}
 use Rattle.written.proofs.Named.{Parted, modes_part, rows_part, tasks_part, Named}
 use Rattle.written.proofs.Sheets.{entry_sheet}
@@ -163,7 +164,7 @@ module _ (bytes : List ℕ) (start : ℕ) (rest : List ℕ) where
         (checked_both place first (row_gap_rules bytes tally row_here) whole
         ∙ checked_alike place first _ _
         (λ none.
-        let like = (common_says _ _ _ _ _ (all_kept first (common_numbered _ _ _ _ _) none)).2 in
+        let like = (common_says _ _ _ _ _ (all_kept first none)).2 in
         rw (gaps_here like (record { 0 = 1 }), gaps_here like deadline) refl)
         ∙ sym (checked_both place first (row_rules tally row_here (one_shorter gaps (record { 0 = 1 })) (one_shorter gaps deadline)) whole))
 

@@ -2,25 +2,30 @@
 use Prim.Native.Nat.{ℕ, zero, suc, ◌+◌, ◌-◌, ◌*◌, ◌/◌, ◌%◌, ◌≤◌, ◌<◌}
 use native.Mathlib.Numerals.{add-one}
 use native.Mathlib.Omega.{arith}
-use mathlib.Core.Path.{◌≡◌, ◌∙◌, refl, ap, ap₂}
+use mathlib.Core.Path.{◌≡◌, ◌∙◌, refl, sym, ap, ap₂}
 use mathlib.Core.List.{List, [], ◌∷◌}
-use mathlib.Core.Bool.{Bool, true, false, not}
+use mathlib.Core.Bool.{Bool, true, false, not, true≢false}
 use lib.Dec.{ltb, eqb}
 use lib.ListN.{length, get_or, take, drop, length-drop}
 use lib.Seq.{drop-cons, length-take-le}
 use borrow.Author.Tests.{ltb-false, eqb-true, eqb-false, eq-eqb, not-false}
+use Rattle.std.specs.Prelude.{Result, Ok, Err, is_ok}
 use Rattle.fields.specs.Deciding.{Rule, ◌when◌, pick, judged_by}
 use Rattle.fields.specs.Fields.{line_of, fields, kind_of, is_refused}
 use Rattle.fields.specs.Limits.{mode_size, fallback_size, head_size, gap_size, task_size, jitter_size}
 use Rattle.fields.specs.Reading.{field_at, word_at, long_at, mode_at, row_at, task_at}
+use Rattle.fields.specs.Refusals.{refused}
 use Rattle.fields.specs.declared.table.Kind.{Kind}
 use Rattle.fields.specs.declared.table.Kind.TheVariants.{RefusedTag, LabelField, ModeField, RowField, TaskField, EndField, SkippedField}
-use Rattle.fields.specs.declared.reader.Step.TheVariants.{Field, Refusal}
+use Rattle.fields.specs.declared.reader.Field.{Field}
+use Rattle.fields.specs.declared.refusal.Reason.{Reason}
+use Rattle.fields.specs.declared.refusal.Reason.TheVariants.{CutOff, UnknownTag}
+use Rattle.fields.specs.declared.refusal.Refusal.{Refusal}
 use Rattle.fields.proofs.Deciding.{neither}
 use Rattle.rules.specs.Rules.{wrong_length, follower_count}
 use Rattle.sheet.specs.Proper.{Bytes}
 use Rattle.sheet.proofs.Numbered.{long_enough}
-use Rattle.sheet.proofs.Walking.{field_in}
+use Rattle.sheet.proofs.Walking.{found, field_in}
 use Rattle.written.specs.Reading.{words_at}
 use Rattle.written.specs.Values.{ModeEntry, TaskEntry}
 use Rattle.written.specs.Written.{words, mode_numbers, task_numbers, field, content_of}
@@ -30,11 +35,16 @@ use Rattle.written.proofs.ShortForms.{longer_size}
 use Rattle.written.proofs.ShortNumbers.{either_way}
 
 -- an answer that is no refusal is what stands behind the rules
-not_refused : {A : Type 0} (refuse : ℕ → A) (ok answer : A) → ((n : ℕ) → refuse n ≡ answer → ⊥) → (rules : List Rule) → judged_by refuse rules ok ≡ answer → ok ≡ answer
+not_refused : {A : Type 0} (refuse : Reason → A) (ok answer : A) → ((reason : Reason) → refuse reason ≡ answer → ⊥) → (rules : List Rule) → judged_by refuse rules ok ≡ answer → ok ≡ answer
 unfolding pick
 not_refused refuse ok answer other [] e = e
-not_refused refuse ok answer other (n when true ∷ rules) e = absurd (other n e)
-not_refused refuse ok answer other (n when false ∷ rules) e = not_refused refuse ok answer other rules e
+not_refused refuse ok answer other (reason when true ∷ rules) e = absurd (other reason e)
+not_refused refuse ok answer other (reason when false ∷ rules) e = not_refused refuse ok answer other rules e
+
+-- a part of the field that an answer holds
+abbrev part_of : {A : Type 0} → (Field → A) → A → Result Field Refusal → A
+part_of part other (Ok field) = part field
+part_of part other (Err refusal) = other
 
 -- the tag of a kind, where the kind is known by one
 abbrev pub tag_for : Kind → ℕ
@@ -122,20 +132,20 @@ module _ (bytes : List ℕ) (fit : Bytes bytes) where
       rw (more, word_first at (omega arith)) (ap (λ (rest : List ℕ). word_at bytes at / 256 ∷ word_at bytes at % 256 ∷ rest) (part_words count (at + 2) (omega arith)))
 
   -- the kind and the length are those of the header, and of a known kind the bytes are a field
-  module _ (at start size next : ℕ) (kind : Kind) (here : field_at bytes at ≡ Field kind start size next) where
-    never_refused : (n : ℕ) → Refusal n at ≡ Field kind start size next → ⊥
-    never_refused n e = let z : ◌≡◌ {A = ℕ} 0 1 = cc in omega arith
+  module _ (at start size next : ℕ) (kind : Kind) (here : field_at bytes at ≡ found kind start size next) where
+    never_refused : (reason : Reason) → refused reason at ≡ found kind start size next → ⊥
+    never_refused reason e = true≢false (sym (ap is_ok e))
 
     field_says : (kind_of (get_or bytes at 0) ≡ kind) × (word_at bytes (at + 1) ≡ size)
     unfolding field_at
     field_says =
         let rules =
-        1 when (ltb (length bytes) (at + 3))
-        ∷ 2 when (is_refused (kind_of (get_or bytes at 0)))
-        ∷ 1 when (ltb (length bytes) (at + 3 + word_at bytes (at + 1)))
+        CutOff when (ltb (length bytes) (at + 3))
+        ∷ UnknownTag when (is_refused (kind_of (get_or bytes at 0)))
+        ∷ CutOff when (ltb (length bytes) (at + 3 + word_at bytes (at + 1)))
         ∷ [] in
-        let e = not_refused (λ n. Refusal n at) _ (Field kind start size next) never_refused rules here in
-        (cc, cc)
+        let e = not_refused (λ reason. refused reason at) _ (found kind start size next) never_refused rules here in
+        (ap (part_of (λ field. field.kind) kind) e, ap (part_of (λ field. field.size) size) e)
 
     pub field_bytes : Known kind → take (next - at) (drop at bytes) ≡ field (tag_for kind) (take size (drop start bytes))
     field_bytes known =

@@ -12,7 +12,7 @@ use borrow.Author.Tests.{le-ltb}
 use Rattle.fields.specs.Deciding.{pick}
 use Rattle.fields.specs.Fields.{kind_of, is_refused}
 use Rattle.fields.specs.Reading.{field_at, word_at}
-use Rattle.fields.specs.declared.reader.Step.TheVariants.{Field}
+use Rattle.sheet.proofs.Walking.{found}
 use Rattle.written.specs.Reading.{words_at}
 use Rattle.written.specs.Written.{field, words}
 
@@ -50,7 +50,7 @@ module _ (bytes : List ℕ) (at tag : ℕ) (content rest : List ℕ) (e : drop a
   pub long_here : length bytes ≡ at + 3 + length content + length rest
   long_here = let h : length bytes - at ≡ 3 + length content + length rest = sym (length-drop at bytes) ∙ ap length e ∙ simp length-append (omega arith) in omega arith
 
-  pub field_here : is_refused (kind_of tag) ≡ false → field_at bytes at ≡ Field (kind_of tag) (at + 3) (length content) (at + 3 + length content)
+  pub field_here : is_refused (kind_of tag) ≡ false → field_at bytes at ≡ found (kind_of tag) (at + 3) (length content) (at + 3 + length content)
   unfolding field_at pick
   field_here known =
       let t : get_or bytes at 0 ≡ tag = first_here bytes at _ _ e in

@@ -6,22 +6,25 @@ use mathlib.Core.List.{List, [], ◌∷◌, ◌++◌, map}
 use mathlib.Core.Bool.{true, false}
 use lib.ListN.{length, get_or, take, get_or-map}
 use lib.Seq.{get_or-take}
+use Rattle.std.specs.Prelude.{Result, Ok, Err}
 use Rattle.fields.specs.Deciding.{Rule, ◌when◌, pick, first_broken}
 use Rattle.fields.specs.Values.{empty_sheet, no_row}
 use Rattle.rules.specs.Rules.{unknown_in, unknown_follower, common_rules}
-use Rattle.sheet.specs.Judging.{number_of, refusal, checked, judged}
+use Rattle.sheet.specs.Judging.{refusal, checked, judged}
 use Rattle.sheet.specs.Meaning.{rows_in}
+use Rattle.fields.specs.declared.refusal.Reason.{Reason}
+use Rattle.fields.specs.declared.refusal.Reason.TheVariants.{UnknownFollower}
 use Rattle.fields.specs.declared.values.Row.{Row}
 use Rattle.fields.specs.declared.values.Sheet.{Sheet}
-use Rattle.sheet.specs.declared.Answer.TheVariants.{Accepted}
-use Rattle.sheet.specs.declared.Judged.{Judged}
+use Rattle.sheet.specs.Answer.{Answer, Accepted, Refused, Judged}
 use Rattle.fields.proofs.Deciding.{by_none}
 use Rattle.written.specs.Judging.{entries_rules, count_entries, no_tally, unknown_among, end_rules, values_rules}
 use Rattle.written.specs.Reading.{values_in, values_of}
 use Rattle.written.specs.Values.{Values, entries}
 use Rattle.written.specs.Written.{field, fields_of, written}
-use Rattle.written.proofs.Alike.{any_alike, checked_alike, checked_one}
-use Rattle.written.proofs.EntriesKept.{values_numbered, kept_written}
+use Rattle.fields.proofs.AnyFrom.{any_alike}
+use Rattle.written.proofs.Alike.{checked_alike, checked_one}
+use Rattle.written.proofs.EntriesKept.{kept_written}
 use Rattle.written.proofs.From.{judged_from}
 use Rattle.written.proofs.Here.{past_here}
 use Rattle.written.proofs.Named.{entries_named}
@@ -29,12 +32,17 @@ use Rattle.written.proofs.ReadBack.{values_read}
 use Rattle.written.proofs.Sheets.{read_sheet, entries_tally}
 use Rattle.written.proofs.Walked.{entries_walked, end_walked}
 
--- the number that refuses is that of the first broken rule
-number_checked : (place : ℕ) (rules : List Rule) (sheet : Sheet) → number_of (checked place rules (record { answer = Accepted; sheet = sheet })).answer ≡ first_broken rules
+-- the reason that an answer refuses for, where it refuses
+abbrev pub reason_of : Answer → Result (Unit {0}) Reason
+reason_of Accepted = Ok tt
+reason_of (Refused reason place) = Err reason
+
+-- the reason that refuses is that of the first broken rule
+reason_checked : (place : ℕ) (rules : List Rule) (sheet : Sheet) → reason_of (checked place rules (record { answer = Accepted; sheet = sheet })).answer ≡ first_broken rules
 unfolding refusal first_broken pick
-number_checked place [] sheet = refl
-number_checked place (n when true ∷ rules) sheet = refl
-number_checked place (n when false ∷ rules) sheet = number_checked place rules sheet
+reason_checked place [] sheet = refl
+reason_checked place (reason when true ∷ rules) sheet = refl
+reason_checked place (reason when false ∷ rules) sheet = reason_checked place rules sheet
 
 -- the rows that are counted and their sets name the same rows
 pub unknown_alike : (rows : List Row) (count : ℕ) → unknown_follower rows count ≡ unknown_among (map (λ row. row.followers) (take count rows)) count
@@ -49,8 +57,8 @@ module _ (values : Values) where
   accepted = record { answer = Accepted; sheet = read_sheet values }
 
   -- where no rule of a field is broken, the follower sets are read back, so rule 9 is the same of either
-  end_alike : first_broken (entries_rules no_tally (entries values)) ≡ 0
-      → common_rules 5 (read_sheet values).tally.last 0 false 0 ++ (9 when (unknown_follower (read_sheet values).rows (read_sheet values).tally.rows) ∷ []) ≡ end_rules (count_entries no_tally (entries values)) values.sets
+  end_alike : first_broken (entries_rules no_tally (entries values)) ≡ Ok tt
+      → common_rules 5 (read_sheet values).tally.last 0 false 0 ++ (UnknownFollower when (unknown_follower (read_sheet values).rows (read_sheet values).tally.rows) ∷ []) ≡ end_rules (count_entries no_tally (entries values)) values.sets
   unfolding end_rules values_in
   end_alike none =
       let sets : map (λ row. row.followers) (rows_in (read_sheet values)) ≡ values.sets = ap (λ read. read.sets) (values_read values none) in
@@ -71,17 +79,17 @@ module _ (values : Values) where
       let behind = checked_alike walked.0 first _ _ (λ none. ended ∙ ap (λ rules. checked end rules accepted) (end_alike none)) in
       (both.0, judged_from bytes ∙ walked.1 ∙ behind ∙ both.1)
 
-  -- a reader of the written bytes gives the number that the rules on values give
-  pub judged_written : number_of (judged (written values)).answer ≡ first_broken (values_rules values)
-  judged_written = ap (λ said. number_of said.answer) walked_written.1 ∙ number_checked walked_written.0 (values_rules values) (read_sheet values)
+  -- a reader of the written bytes refuses for the reason that the rules on values give
+  pub judged_written : reason_of (judged (written values)).answer ≡ first_broken (values_rules values)
+  judged_written = ap (λ said. reason_of said.answer) walked_written.1 ∙ reason_checked walked_written.0 (values_rules values) (read_sheet values)
 
-  -- and where it is 0, accepts the sheet that the entries make
-  pub accepted_written : first_broken (values_rules values) ≡ 0 → judged (written values) ≡ record { answer = Accepted; sheet = read_sheet values }
-  accepted_written none = walked_written.1 ∙ by_none _ accepted (values_rules values) (values_numbered values) none
+  -- and where they give none, accepts the sheet that the entries make
+  pub accepted_written : first_broken (values_rules values) ≡ Ok tt → judged (written values) ≡ record { answer = Accepted; sheet = read_sheet values }
+  accepted_written none = walked_written.1 ∙ by_none _ accepted (values_rules values) none
 
   -- an accepted sheet is one that breaks no rule
-  pub accepted_kept : (judged (written values)).answer ≡ Accepted → first_broken (values_rules values) ≡ 0
-  accepted_kept accepted = sym judged_written ∙ ap number_of accepted
+  pub accepted_kept : (judged (written values)).answer ≡ Accepted → first_broken (values_rules values) ≡ Ok tt
+  accepted_kept accepted = sym judged_written ∙ ap reason_of accepted
 
   -- and reading it gives the same values
   pub written_read : (judged (written values)).answer ≡ Accepted → values_of (written values) ≡ values

@@ -7,6 +7,7 @@ use mathlib.Core.Bool.{Bool, true, false}
 use lib.Dec.{eqb}
 use lib.ListN.{length, take, drop}
 use borrow.Author.Tests.{eqb-true, eq-eqb, not-false}
+use Rattle.std.specs.Prelude.{Ok}
 use Rattle.fields.specs.Deciding.{pick, first_broken}
 use Rattle.fields.specs.Fields.{line_of, fields}
 use Rattle.fields.specs.Values.{short_task_size}
@@ -20,7 +21,7 @@ use Rattle.sheet.proofs.KeptRules.{order_kept}
 use Rattle.sheet.proofs.Numbered.{common_says}
 use Rattle.written.specs.Judging.{band_count, no_tally, entry_rules, count_entry, entries_rules, count_entries, values_rules}
 use Rattle.written.specs.Values.{Values, Entry, LabelEntry, ModeEntry, RowEntry, TaskEntry, mode_entries, row_entries, task_entries, entries}
-use Rattle.written.proofs.Columns.{Whole}
+use Rattle.written.proofs.InColumns.{Whole}
 use Rattle.written.proofs.EntriesKept.{entries_kept, rules_both, count_both, kept_written, end_written}
 
 -- modes of which none is cut have as many job lengths and fall-backs as boundaries
@@ -101,7 +102,7 @@ rows_first tally (l ∷ lengths) (period ∷ periods) (deadline ∷ deadlines) (
     let order = (common_says _ _ _ _ _ (both_kept (common_rules 4 tally.last (short_task_size task) false tally.tasks) _ own).0).0 in
     omega (arith, order_kept tally.last 4 3 order refl (omega arith))
 
-module _ (values : Values) (none : first_broken (values_rules values) ≡ 0) (whole : Whole (mode_entries values.boundaries values.lengths values.fallbacks))
+module _ (values : Values) (none : first_broken (values_rules values) ≡ Ok tt) (whole : Whole (mode_entries values.boundaries values.lengths values.fallbacks))
     (rows_whole : Whole (row_entries values.speeds values.deadlines values.sets values.gaps))
     (tasks-whole : Whole (task_entries values.task_lengths values.task_periods values.task_deadlines values.task_jitters)) where
   abbrev modes : List Entry

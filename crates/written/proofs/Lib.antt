@@ -9,7 +9,7 @@ pub mod EntryFields
 pub mod Walked
 pub mod EntriesKept
 pub mod Entered
-pub mod Columns
+pub mod InColumns
 pub mod EntriesFrom
 pub mod ReadBack
 pub mod JudgedWritten

@@ -8,6 +8,7 @@ use mathlib.Core.List.{List, [], ◌∷◌, ◌++◌, append_assoc, append-nil, 
 use mathlib.Core.Bool.{false}
 use lib.ListN.{length, take, drop}
 use lib.Seq.{take-append_seam}
+use Rattle.std.specs.Prelude.{Ok}
 use Rattle.fields.specs.Deciding.{first_broken}
 use Rattle.fields.specs.Limits.{head_size}
 use Rattle.fields.specs.Values.{empty_sheet, short_size, short_task_size}
@@ -19,7 +20,7 @@ use Rattle.written.specs.Judging.{row_size, entry_rules, count_entry, entries_ru
 use Rattle.written.specs.Reading.{words_at, values_in}
 use Rattle.written.specs.Values.{Values, Entry, LabelEntry, ModeEntry, RowEntry, TaskEntry, CutEntry, entries}
 use Rattle.written.specs.Written.{words, content_of, tag_of, field_of, fields_of, field, written}
-use Rattle.written.proofs.Columns.{Uncut, Whole, values_entries, entries_columns, entries_tell}
+use Rattle.written.proofs.InColumns.{Uncut, Whole, values_entries, entries_columns, entries_tell}
 use Rattle.written.proofs.Entered.{InOrder, Entered, empty_in_order, none_entered, with_label_lem, with_mode_lem, with_row_lem, with_task_lem}
 use Rattle.written.proofs.EntriesKept.{entries_kept}
 use Rattle.written.proofs.Here.{on_here, past_here, words_here, content_here}
@@ -61,7 +62,7 @@ entries_read bytes at sheet (entry ∷ more) rest here order whole kept =
     let all = entries_read bytes (at + length (field_of entry)) grown more rest (past_here bytes at (field_of entry) _ this) one.order whole.1 left in
     (all.0, all.1 ∙ ap (λ (l : List Entry). l ++ more) one.more ∙ append_assoc (entries_in bytes sheet) (entry ∷ []) more)
 
-module _ (values : Values) (none : first_broken (entries_rules no_tally (entries values)) ≡ 0) where
+module _ (values : Values) (none : first_broken (entries_rules no_tally (entries values)) ≡ Ok tt) where
   kept : Kept (entries_rules no_tally (entries values))
   kept = entries_kept no_tally (entries values) none
 

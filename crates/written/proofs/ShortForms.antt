@@ -10,35 +10,35 @@ use lib.Dec.{eqb}
 use lib.ListN.{length, take, drop, length-append, length-take}
 use lib.Seq.{take-add, take_all}
 use borrow.Author.Tests.{eqb-true, not-false}
+use Rattle.std.specs.Prelude.{Result, Ok, Err}
 use Rattle.fields.specs.Deciding.{pick, ◌or◌}
 use Rattle.fields.specs.Fields.{is_end}
 use Rattle.fields.specs.Limits.{mode_size, fallback_size, task_size, jitter_size}
 use Rattle.fields.specs.Reading.{word_at, field_at}
 use Rattle.fields.specs.declared.table.Kind.{Kind}
 use Rattle.fields.specs.declared.table.Kind.TheVariants.{RefusedTag, LabelField, ModeField, RowField, TaskField, EndField, SkippedField}
-use Rattle.fields.specs.declared.reader.Step.{Step}
-use Rattle.fields.specs.declared.reader.Step.TheVariants.{Field, Refusal}
+use Rattle.fields.specs.declared.reader.Field.{Field}
+use Rattle.fields.specs.declared.refusal.Refusal.{Refusal}
 use Rattle.fields.proofs.Deciding.{neither}
 use Rattle.sheet.specs.Judging.{refusal, judged}
-use Rattle.sheet.specs.declared.Answer.TheVariants.{Accepted}
-use Rattle.sheet.specs.declared.Judged.{Judged}
+use Rattle.sheet.specs.Answer.{Accepted, Judged}
 use Rattle.sheet.proofs.Keeping.{Keeps, judged_keeps}
-use Rattle.sheet.proofs.Walking.{field_in}
+use Rattle.sheet.proofs.Walking.{found, field_in}
 use Rattle.written.specs.ShortForm.{is_skipped, has_shorter, shorter_field, short_field, short_step, short_from, short_form, one_step, one_from, has_skipped, takes_shorter}
 
 module _ {A : Type 0} (refused : A) (on : ℕ → Kind → ℕ → ℕ → ℕ → A → A) where
   -- what is said of the field at a place, where `go` says it of the fields behind
-  abbrev pub stepped : ℕ → (ℕ → A) → Step → A
-  stepped at go (Refusal number place) = refused
-  stepped at go (Field kind start size next) = on at kind start size next (go next)
+  abbrev pub stepped : ℕ → (ℕ → A) → Result Field Refusal → A
+  stepped at go (Err refusal) = refused
+  stepped at go (Ok field) = on at field.kind field.start field.size field.next (go field.next)
 
   module _ (bytes : List ℕ) (from : ℕ → ℕ → A) (steps : (n at : ℕ) → from (suc n) at ≡ stepped at (from n) (field_at bytes at)) where
-    one_field : (n m at : ℕ) (step : Step) → field_at bytes at ≡ step → ((next : ℕ) → at < next → next ≤ length bytes → from n next ≡ from m next)
+    one_field : (n m at : ℕ) (step : Result Field Refusal) → field_at bytes at ≡ step → ((next : ℕ) → at < next → next ≤ length bytes → from n next ≡ from m next)
         → stepped at (from n) step ≡ stepped at (from m) step
-    one_field n m at (Refusal number place) e same = refl
-    one_field n m at (Field kind start size next) e same =
-        let lies = field_in bytes at kind start size next e in
-        ap (on at kind start size next) (same next (omega arith) lies.2)
+    one_field n m at (Err refusal) e same = refl
+    one_field n m at (Ok field) e same =
+        let lies = field_in bytes at field.kind field.start field.size field.next e in
+        ap (on at field.kind field.start field.size field.next) (same field.next (omega arith) lies.2)
 
     -- a field has three bytes at least, so nothing is cut short by the number of fields
     never_short : (n m at : ℕ) → at ≤ length bytes → length bytes < n + at → length bytes < m + at → from n at ≡ from m at
@@ -48,7 +48,7 @@ module _ {A : Type 0} (refused : A) (on : ℕ → Kind → ℕ → ℕ → ℕ �
         steps n at ∙ one_field n m at (field_at bytes at) refl (λ next later lies. never_short n m next lies (omega arith) (omega arith)) ∙ sym (steps m at)
 
     -- with as many fields as the file can have
-    pub field_next : (at start size next : ℕ) (kind : Kind) → field_at bytes at ≡ Field kind start size next
+    pub field_next : (at start size next : ℕ) (kind : Kind) → field_at bytes at ≡ found kind start size next
         → from (suc (length bytes)) at ≡ on at kind start size next (from (suc (length bytes)) next)
     field_next at start size next kind e =
         let lies = field_in bytes at kind start size next e in
@@ -79,15 +79,15 @@ module _ (bytes : List ℕ) where
   abbrev one_on : Test → ℕ → Kind → ℕ → ℕ → ℕ → Bool → Bool
   one_on test at kind start size next rest = test kind start size or pick (is_end kind) false rest
 
-  short_stepped : (at : ℕ) (go : ℕ → List ℕ) (step : Step) → short_step bytes at go step ≡ stepped [] short_on at go step
+  short_stepped : (at : ℕ) (go : ℕ → List ℕ) (step : Result Field Refusal) → short_step bytes at go step ≡ stepped [] short_on at go step
   unfolding short_step
-  short_stepped at go (Refusal number place) = refl
-  short_stepped at go (Field kind start size next) = refl
+  short_stepped at go (Err refusal) = refl
+  short_stepped at go (Ok field) = refl
 
-  one_stepped : (test : Test) (at : ℕ) (go : ℕ → Bool) (step : Step) → one_step test go step ≡ stepped false (one_on test) at go step
+  one_stepped : (test : Test) (at : ℕ) (go : ℕ → Bool) (step : Result Field Refusal) → one_step test go step ≡ stepped false (one_on test) at go step
   unfolding one_step
-  one_stepped test at go (Refusal number place) = refl
-  one_stepped test at go (Field kind start size next) = refl
+  one_stepped test at go (Err refusal) = refl
+  one_stepped test at go (Ok field) = refl
 
   -- from the start on it is the whole file
   pub short_all : short_form bytes ≡ short_after 0
@@ -97,7 +97,7 @@ module _ (bytes : List ℕ) where
   one_all : (test : Test) → one_from bytes test (length bytes + 1) 0 ≡ one_after test 0
   one_all test = ap (λ (n : ℕ). one_from bytes test n 0) (add-one (length bytes))
 
-  module _ (at start size next : ℕ) (kind : Kind) (here : field_at bytes at ≡ Field kind start size next) where
+  module _ (at start size next : ℕ) (kind : Kind) (here : field_at bytes at ≡ found kind start size next) where
     pub short_field_lem : short_after at ≡ short_field bytes at kind start size next ++ pick (is_end kind) [] (short_after next)
     unfolding short_from
     short_field_lem = field_next [] short_on bytes (short_from bytes) (λ n place. short_stepped place (short_from bytes n) (field_at bytes place)) at start size next kind here
@@ -123,7 +123,7 @@ module _ (bytes : List ℕ) (none-skipped : has_skipped bytes ≡ false) (shorte
   abbrev Answers : Judged → Type 0
   Answers answer = answer.answer ≡ Accepted → short_form bytes ≡ bytes
 
-  module _ (at start size next : ℕ) (kind : Kind) (here : field_at bytes at ≡ Field kind start size next) (so_far : AllKept at) where
+  module _ (at start size next : ℕ) (kind : Kind) (here : field_at bytes at ≡ found kind start size next) (so_far : AllKept at) where
     unskipped : (is_skipped kind ≡ false) × (pick (is_end kind) false (one_after bytes (skipping bytes) next) ≡ false)
     unskipped = neither _ _ (sym (one_field_more bytes at start size next kind here (skipping bytes)) ∙ so_far.skips)
 
@@ -161,7 +161,7 @@ module _ (bytes : List ℕ) (none-skipped : has_skipped bytes ≡ false) (shorte
   keeps_all =
       record {
         none = nothing_read;
-        refused = λ n place o inside e. let z : ◌≡◌ {A = ℕ} 0 1 = cc in absurd (omega arith);
+        refused = λ reason place o inside e. let z : ◌≡◌ {A = ℕ} 0 1 = cc in absurd (omega arith);
         label = λ sheet at start size next e p common own. goes_on at start size next _ e p refl;
         mode = λ sheet at start size next e p common own. goes_on at start size next _ e p refl;
         row = λ sheet at start size next e p common own. goes_on at start size next _ e p refl;
@@ -212,7 +212,7 @@ module _ (bytes : List ℕ) where
   changed kind start size = is_skipped kind or has_shorter bytes kind start size
 
   -- a field in its short form has no more bytes than the field, and fewer where it is changed
-  module _ (at start size next : ℕ) (kind : Kind) (here : field_at bytes at ≡ Field kind start size next) where
+  module _ (at start size next : ℕ) (kind : Kind) (here : field_at bytes at ≡ found kind start size next) where
     field_long : (skips has : Bool) → has_shorter bytes kind start size ≡ has
         → let own = pick skips [] (pick has (shorter_field bytes kind start) (take (next - at) (drop at bytes))) in
         (length own + at ≤ next) × ((skips or has) ≡ true → length own + at < next)
@@ -235,10 +235,14 @@ module _ (bytes : List ℕ) where
     behind false next short one inside fits = fits
 
     one_step_lem : (n at : ℕ) → at ≤ length bytes → ((next : ℕ) → next ≤ length bytes → Fits next (short_from bytes n next) (one_from bytes test n next))
-        → (step : Step) → field_at bytes at ≡ step → Fits at (short_step bytes at (short_from bytes n) step) (one_step test (one_from bytes test n) step)
+        → (step : Result Field Refusal) → field_at bytes at ≡ step → Fits at (short_step bytes at (short_from bytes n) step) (one_step test (one_from bytes test n) step)
     unfolding short_step one_step
-    one_step_lem n at inside rest (Refusal number place) e = (omega arith, λ none. absurd (true≢false (sym none)))
-    one_step_lem n at inside rest (Field kind start size next) e =
+    one_step_lem n at inside rest (Err refusal) e = (omega arith, λ none. absurd (true≢false (sym none)))
+    one_step_lem n at inside rest (Ok field) e =
+        let kind = field.kind in
+        let start = field.start in
+        let size = field.size in
+        let next = field.next in
         let lies = field_in bytes at kind start size next e in
         let own = field_long at start size next kind e (is_skipped kind) (has_shorter bytes kind start size) refl in
         let more = behind (is_end kind) next (short_from bytes n next) (one_from bytes test n next) lies.2 (rest next lies.2) in

@@ -12,6 +12,7 @@ use Rattle.sets.specs.Sets.{width, next_in}
 use Rattle.sets.proofs.Bits.{all_below}
 use Rattle.sets.proofs.Search.{next_none_all}
 use Rattle.meaning.proofs.Tests.{lt_or}
+use Rattle.std.specs.Prelude.{Ok}
 use Rattle.fields.specs.Deciding.{pick, first_broken}
 use Rattle.fields.specs.Values.{empty_sheet, short_size, short_task_size}
 use Rattle.fields.specs.Limits.{mode_limit, row_limit, task_limit, label_limit, mode_size, fallback_size, head_size, gap_size, task_size, jitter_size}
@@ -25,7 +26,7 @@ use Rattle.written.specs.Judging.{band_count, jitter_count, sheet_size, no_tally
 use Rattle.written.specs.Reading.{values_in}
 use Rattle.written.specs.Values.{Values, Entry, LabelEntry, ModeEntry, RowEntry, TaskEntry, CutEntry, mode_entries, row_entries, task_entries, entries}
 use Rattle.written.specs.Written.{words, tag_of, content_of, field_of, fields_of, field, written}
-use Rattle.written.proofs.Columns.{Whole, entries_columns}
+use Rattle.written.proofs.InColumns.{Whole, entries_columns}
 use Rattle.written.proofs.Entered.{InOrder}
 use Rattle.written.proofs.EntriesKept.{label_says, row_says, entries_kept, rules_both, kept_written, end_written}
 use Rattle.written.proofs.EntryFields.{words_length}
@@ -149,9 +150,9 @@ size_of values =
 abbrev pub most_written : ℕ
 most_written = sheet_size label_limit mode_limit (mode_limit - 1) row_limit (row_limit * row_limit) task_limit task_limit
 
-module _ (values : Values) (none : first_broken (values_rules values) ≡ 0) where
+module _ (values : Values) (none : first_broken (values_rules values) ≡ Ok tt) where
   -- no field breaks a rule, and the sheet that is read has these values
-  fields_none : first_broken (entries_rules no_tally (entries values)) ≡ 0
+  fields_none : first_broken (entries_rules no_tally (entries values)) ≡ Ok tt
   fields_none = kept_written values none
 
   kept : Kept (entries_rules no_tally (entries values))
@@ -252,17 +253,17 @@ module _ (values : Values) (none : first_broken (values_rules values) ≡ 0) whe
   pub written_most : length (written values) ≤ most_written
   written_most = omega (arith, size_written, label_most, modes_most, bands_most, rows_most, gaps_most, tasks_most, jitters_most)
 
-  -- rule 9: a set of as many bits as code gives it names only rows that a sheet can have
-  pub sets_narrow : ((k : ℕ) → get_or values.sets k 0 < 2 ^ width) → (k : ℕ) → get_or values.sets k 0 < 2 ^ row_limit
+  -- rule 9: a set that has no more bits than code gives it names only rows that a sheet can have
+  pub sets_narrow : (k : ℕ) → get_or values.sets k 0 < 2 ^ width → get_or values.sets k 0 < 2 ^ row_limit
   unfolding unknown_among unknown_in empty_sheet values_in
-  sets_narrow wide k =
+  sets_narrow k wide =
       let count = (count_entries no_tally (entries values)).rows in
       let few : count ≤ row_limit = rows_counted no_tally (entries values) (omega arith) kept in
       ⊎_elim
       (λ (inside : k < count).
       let followers = get_or values.sets k 0 in
       let none-there = nothing (next_in (width - count) followers count) (any_false _ 0 count (end_written values none).1 k (omega arith) (omega arith)) in
-      lt_of_lt_of_le ((all_below count followers).1 (next_none_all width followers count (wide k) none-there)) (pow_mono few))
+      lt_of_lt_of_le ((all_below count followers).1 (next_none_all width followers count wide none-there)) (pow_mono few))
       (λ (past : count ≤ k).
       let counted = column_most (λ row. row.followers) (read_sheet values).rows (read_sheet values).tally.rows values.sets (ap (λ read. read.sets) same) in
       let tally = ap (λ tally. tally.rows) (entries_tally 0 empty_sheet (entries values)) in

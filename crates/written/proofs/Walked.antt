@@ -10,8 +10,9 @@ use borrow.Author.Tests.{le-ltb}
 use Rattle.fields.specs.Deciding.{◌when◌, pick}
 use Rattle.rules.specs.Rules.{unknown_follower, common_rules}
 use Rattle.sheet.specs.Judging.{head_rules, own_rules, checked, end_judged}
+use Rattle.fields.specs.declared.refusal.Reason.TheVariants.{UnknownFollower}
 use Rattle.fields.specs.declared.values.Sheet.{Sheet}
-use Rattle.sheet.specs.declared.Answer.TheVariants.{Accepted}
+use Rattle.sheet.specs.Answer.{Accepted}
 use Rattle.written.specs.Judging.{entry_rules, entries_rules}
 use Rattle.written.specs.Values.{Entry}
 use Rattle.written.specs.Written.{field, tag_of, content_of, field_of, fields_of}
@@ -51,7 +52,7 @@ module _ (bytes : List ℕ) where
   -- the end field at the end of the file
   pub end_walked : (at : ℕ) (sheet : Sheet) → drop at bytes ≡ field 5 []
       → from bytes at sheet
-      ≡ checked at (common_rules 5 sheet.tally.last 0 false 0 ++ (9 when (unknown_follower sheet.rows sheet.tally.rows) ∷ [])) (record { answer = Accepted; sheet = sheet })
+      ≡ checked at (common_rules 5 sheet.tally.last 0 false 0 ++ (UnknownFollower when (unknown_follower sheet.rows sheet.tally.rows) ∷ [])) (record { answer = Accepted; sheet = sheet })
   unfolding head_rules own_rules common_rules end_judged pick
   end_walked at sheet e =
       let last : ltb (at + 3 + 0) (length bytes) ≡ false = le-ltb (at + 3 + 0) (length bytes) (omega (arith, long_here bytes at 5 [] [] e)) in

@@ -16,18 +16,16 @@ use Rattle.sheet.specs.Judging.{refusal, judged}
 use Rattle.sheet.specs.Proper.{Bytes}
 use Rattle.fields.specs.declared.table.Kind.{Kind}
 use Rattle.fields.specs.declared.table.Kind.TheVariants.{EndField}
-use Rattle.fields.specs.declared.reader.Step.TheVariants.{Field}
 use Rattle.fields.specs.declared.values.Sheet.{Sheet}
-use Rattle.sheet.specs.declared.Answer.TheVariants.{Accepted}
-use Rattle.sheet.specs.declared.Judged.{Judged}
+use Rattle.sheet.specs.Answer.{Accepted, Judged}
 use Rattle.sheet.proofs.Keeping.{Keeps, judged_keeps}
 use Rattle.sheet.proofs.Numbered.{common_says, row_length}
-use Rattle.sheet.proofs.Walking.{field_in}
+use Rattle.sheet.proofs.Walking.{found, field_in}
 use Rattle.written.specs.Reading.{values_in, values_of}
 use Rattle.written.specs.ShortForm.{is_skipped, has_shorter, shorter_field, short_field, short_form, has_skipped, takes_shorter}
 use Rattle.written.specs.Values.{Entry, LabelEntry, ModeEntry, TaskEntry}
 use Rattle.written.specs.Written.{field, tag_of, content_of, field_of, fields_of, written}
-use Rattle.written.proofs.Columns.{values_entries}
+use Rattle.written.proofs.InColumns.{values_entries}
 use Rattle.written.proofs.Entered.{InOrder, Entered, empty_in_order, none_entered, label_before, with_label_lem, with_mode_lem, with_row_lem, with_task_lem}
 use Rattle.written.proofs.FieldBytes.{tag_for, Known, field_bytes, short_enough, mode_content, mode_shortened, row_content, task_content, task_shortened}
 use Rattle.written.proofs.Fields.{fields_both}
@@ -50,7 +48,7 @@ module _ (bytes : List ℕ) (fit : Bytes bytes) where
       let none = none_entered bytes empty_sheet empty_in_order refl in
       record { order = empty_in_order; kept = short_all bytes ∙ ap (λ (l : List Entry). fields_of l ++ short_after bytes 0) (sym none) }
 
-  module _ (sheet : Sheet) (at start size next : ℕ) (kind : Kind) (here : field_at bytes at ≡ Field kind start size next) (so_far : SoFar at sheet) where
+  module _ (sheet : Sheet) (at start size next : ℕ) (kind : Kind) (here : field_at bytes at ≡ found kind start size next) (so_far : SoFar at sheet) where
     -- the short form with this field
     with_field_lem : short_form bytes ≡ fields_of (entries_in bytes sheet) ++ (short_field bytes at kind start size next ++ pick (is_end kind) [] (short_after bytes next))
     with_field_lem = so_far.kept ∙ ap (λ (l : List ℕ). fields_of (entries_in bytes sheet) ++ l) (short_field_lem bytes at start size next kind here)
@@ -82,7 +80,7 @@ module _ (bytes : List ℕ) (fit : Bytes bytes) where
         }
 
   -- the end field, which has no content
-  ended : (sheet : Sheet) (at start size next : ℕ) → field_at bytes at ≡ Field EndField start size next → SoFar at sheet
+  ended : (sheet : Sheet) (at start size next : ℕ) → field_at bytes at ≡ found EndField start size next → SoFar at sheet
       → out_of_order sheet.tally.last 5 ≡ false → wrong_length 5 size ≡ false → written (values_in bytes sheet) ≡ short_form bytes
   unfolding pick written line_of fields
   ended sheet at start size next here so_far order long =
@@ -96,7 +94,7 @@ module _ (bytes : List ℕ) (fit : Bytes bytes) where
   kept_fields =
       record {
         none = nothing_read;
-        refused = λ n place o inside e. let z : ◌≡◌ {A = ℕ} 0 1 = cc in absurd (omega arith);
+        refused = λ reason place o inside e. let z : ◌≡◌ {A = ℕ} 0 1 = cc in absurd (omega arith);
         label = λ sheet at start size next e p common own.
             let entry = LabelEntry (take size (drop start bytes)) in
             one_more sheet at start size next _ e p entry _ refl (entry_field sheet at start size next _ e p entry refl tt refl (λ has. absurd (true≢false (sym has))) (λ _. refl))

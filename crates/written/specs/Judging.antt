@@ -5,6 +5,7 @@ use Rattle.fields.specs.Limits.{mode_size, fallback_size, head_size, gap_size, t
 use Rattle.fields.specs.Values.{empty_sheet, short_size, short_task_size}
 use Rattle.rules.specs.Rules.{unlike_set, unknown_in, common_rules, text_rules, mode_rules, row_rules, task_rules}
 use Rattle.rules.specs.Counting.{count_label, count_mode, count_row, count_task}
+use Rattle.fields.specs.declared.refusal.Reason.TheVariants.{UnknownFollower}
 use Rattle.fields.specs.declared.units.Ticks.{Ticks}
 use Rattle.fields.specs.declared.values.Tally.{Tally}
 use Rattle.written.specs.Values.{Values, Entry, LabelEntry, ModeEntry, RowEntry, TaskEntry, CutEntry, entries}
@@ -66,7 +67,7 @@ unknown_among sets count = any_from (λ k. unknown_in (get_or sets k 0) count) 0
 
 -- the rules of the end field
 unfoldable pub end_rules : Tally → List ℕ → List Rule
-end_rules tally sets = common_rules 5 tally.last 0 false 0 ++ (9 when (unknown_among sets tally.rows) ∷ [])
+end_rules tally sets = common_rules 5 tally.last 0 false 0 ++ (UnknownFollower when (unknown_among sets tally.rows) ∷ [])
 
 -- the tally before any field, and all rules that values are tried by
 abbrev pub no_tally : Tally

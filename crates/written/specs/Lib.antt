@@ -3,3 +3,4 @@ pub mod Written
 pub mod Reading
 pub mod ShortForm
 pub mod Judging
+pub mod Lent

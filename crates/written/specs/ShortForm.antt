@@ -1,13 +1,13 @@
 -- The short form of a file: without its skipped fields, and each field in the shorter form where two say the same.
-use Rattle.std.specs.Prelude.{ℕ, zero, suc, ◌+◌, ◌-◌, List, [], ◌++◌, Bool, true, false, not, eqb, length, take, drop}
+use Rattle.std.specs.Prelude.{ℕ, zero, suc, ◌+◌, ◌-◌, List, [], ◌++◌, Bool, true, false, not, eqb, length, take, drop, Result, Ok, Err}
 use Rattle.fields.specs.Deciding.{pick, ◌or◌}
 use Rattle.fields.specs.Fields.{is_end}
 use Rattle.fields.specs.Limits.{mode_size, fallback_size, task_size, jitter_size}
 use Rattle.fields.specs.Reading.{word_at, field_at}
 use Rattle.fields.specs.declared.table.Kind.{Kind}
 use Rattle.fields.specs.declared.table.Kind.TheVariants.{RefusedTag, LabelField, ModeField, RowField, TaskField, EndField, SkippedField}
-use Rattle.fields.specs.declared.reader.Step.{Step}
-use Rattle.fields.specs.declared.reader.Step.TheVariants.{Field, Refusal}
+use Rattle.fields.specs.declared.reader.Field.{Field}
+use Rattle.fields.specs.declared.refusal.Refusal.{Refusal}
 use Rattle.written.specs.Written.{field}
 
 abbrev pub is_skipped : Kind → Bool
@@ -47,9 +47,9 @@ short_field bytes at kind start size next =
     (take (next - at) (drop at bytes)))
 
 -- the field at a place, and behind it what `go` says, but nothing behind the end field
-unfoldable pub short_step : List ℕ → ℕ → (ℕ → List ℕ) → Step → List ℕ
-short_step bytes at go (Refusal number place) = []
-short_step bytes at go (Field kind start size next) = short_field bytes at kind start size next ++ pick (is_end kind) [] (go next)
+unfoldable pub short_step : List ℕ → ℕ → (ℕ → List ℕ) → Result Field Refusal → List ℕ
+short_step bytes at go (Err refusal) = []
+short_step bytes at go (Ok found) = short_field bytes at found.kind found.start found.size found.next ++ pick (is_end found.kind) [] (go found.next)
 
 -- at most n fields from a place on
 unfoldable pub short_from : List ℕ → ℕ → ℕ → List ℕ
@@ -61,9 +61,9 @@ unfoldable pub short_form : List ℕ → List ℕ
 short_form bytes = short_from bytes (length bytes + 1) 0
 
 -- whether one of the fields up to the end field passes a test on its kind, its start and its size, in the same way
-unfoldable pub one_step : (Kind → ℕ → ℕ → Bool) → (ℕ → Bool) → Step → Bool
-one_step test go (Refusal number place) = false
-one_step test go (Field kind start size next) = test kind start size or pick (is_end kind) false (go next)
+unfoldable pub one_step : (Kind → ℕ → ℕ → Bool) → (ℕ → Bool) → Result Field Refusal → Bool
+one_step test go (Err refusal) = false
+one_step test go (Ok found) = test found.kind found.start found.size or pick (is_end found.kind) false (go found.next)
 
 unfoldable pub one_from : List ℕ → (Kind → ℕ → ℕ → Bool) → ℕ → ℕ → Bool
 one_from bytes test zero at = false

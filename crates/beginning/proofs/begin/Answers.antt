@@ -1,45 +1,39 @@
 -- `begin` meets its contract: the judge first, then the range, then the room.
 use Prim.Native.Nat.{◌≤◌, ◌<◌}
-use Rattle.beginning.proofs.Beginnings.{begin_refused, begin_beyond, begin_short, begin_goes_on}
+use Rattle.std.proofs.lemmas.Result.{err_from_is_err_and}
+use Rattle.sheet.proofs.Answering.{outlined_head}
+use Rattle.beginning.proofs.Beginnings.{outline_rows, outlined_handed, begin_refused, begin_beyond, begin_short, begin_goes_on}
 use Rattle.beginning.specs.Beginning.{rows, room_for}
-use Rattle.sheet.specs.Judging.{judged}
-use Rattle.sheet.specs.declared.Answer.TheVariants.{Accepted}
-use Rattle.sheet.specs.declared.Head.{Head}
-use borrow.Author.Tests.{eq-eqb, ne_eqb}
-use mathlib.Core.Path.{◌≡◌, ◌∙◌, sym, ap}
+use mathlib.Core.Path.{◌≡◌, refl}
 use native.Mathlib.Nat.{mul-le-mul}
 use native.Mathlib.Omega.{arith}
 use Rattle.beginning.proofs.begin.Goals as goal
 
-pub returns-else-room-tally : goal.returns-else-room-tally
-returns-else-room-tally c =
-    let accepted : (judged c.args.bytes.now).answer ≡ Accepted = sym c.outline_of-judged.ensures.answer ∙ c.in-Accepted.is in
-    let same-rows : rows c.args.bytes.now ≡ c.outline_of-judged.result.head.tally.rows = sym (ap (λ (head : Head). head.tally.rows) c.outline_of-judged.ensures.head) in
-    let s = c.before.before.before.before.before.before.before.before.before.before in
-    let enough : room_for s.args.bytes.now s.args.lines ≤ s.args.room = rw (same-rows) (omega (arith, c.if-room-tally.false)) in
-    begin_goes_on _ _ _ _ _ _ (accepted) (ne_eqb _ _ c.if-lines-eq0.false) enough
-    c.outline_of-judged.ensures
+pub returns-in_err-head : goal.returns-in_err-head
+returns-in_err-head c =
+    let told = err_from_is_err_and c.from_residual.result c.from_residual.ensures.1 in
+    rw (told.1, told.2) (begin_refused _ _ _ _ c.in_err-head.ensures)
 
-pub returns-then-lines-eq0 : goal.returns-then-lines-eq0
-returns-then-lines-eq0 c =
-    let accepted : (judged c.args.bytes.now).answer ≡ Accepted = sym c.outline_of-judged.ensures.answer ∙ c.in-Accepted.is in begin_beyond _ _ _ _ _ _ (accepted) (eq-eqb _ _ c.if-lines-eq0.true) c.refused.ensures
+pub returns-in_default : goal.returns-in_default
+returns-in_default c = rw (c.from.ensures, c.in_default.is) (begin_beyond _ _ (outlined_head _ _ _ c.in_ok-head.ensures).0)
 
-pub overflow_mul-tally : goal.overflow_mul-tally
-overflow_mul-tally c =
-    let same-rows : rows c.args.bytes.now ≡ c.outline_of-judged.result.head.tally.rows = sym (ap (λ (head : Head). head.tally.rows) c.outline_of-judged.ensures.head) in
-    let rows_few : c.outline_of-judged.result.head.tally.rows ≤ 32 = omega (arith, same-rows, c.outline_of-judged.ensures.rows.most) in
-    let few = rows_few in
-    omega (arith, mul-le-mul few c.requires)
+pub overflow_mul-head : goal.overflow_mul-head
+overflow_mul-head c =
+    let same-rows : c.in_ok-head.head.tally.rows ≡ rows c.args.bytes.now = outline_rows _ _ _ c.in_ok-head.ensures in
+    let few : c.in_ok-head.head.tally.rows ≤ 32 = omega (arith, same-rows, c.outline_of.ensures.rows.most) in
+    omega (arith, mul-le-mul few (rw c.in-Some.is at c.requires.few))
 
-pub returns-then-room-tally : goal.returns-then-room-tally
-returns-then-room-tally c =
-    let accepted : (judged c.args.bytes.now).answer ≡ Accepted = sym c.outline_of-judged.ensures.answer ∙ c.in-Accepted.is in
-    let same-rows : rows c.args.bytes.now ≡ c.outline_of-judged.result.head.tally.rows = sym (ap (λ (head : Head). head.tally.rows) c.outline_of-judged.ensures.head) in
-    let s = c.before.before.before.before.before.before.before.before.before.before.before in
-    let short : s.args.room < room_for s.args.bytes.now s.args.lines = rw (same-rows) (omega (arith, c.if-room-tally.true)) in
-    begin_short _ _ _ _ _ _ (accepted) (ne_eqb _ _ c.if-lines-eq0.false) short c.refused-then-room-tally.ensures
+pub returns-then-room-head : goal.returns-then-room-head
+returns-then-room-head c =
+    let same-rows : c.in_ok-head.head.tally.rows ≡ rows c.args.bytes.now = outline_rows _ _ _ c.in_ok-head.ensures in
+    let short : c.args.room < room_for c.args.bytes.now c.in-Some.lines = rw (← same-rows) c.if-room-head.true in
+    rw (c.from-then-room-head.ensures, c.in-Some.is) (begin_short _ _ (outlined_head _ _ _ c.in_ok-head.ensures).0 _ short)
 
-pub returns-in-Refused : goal.returns-in-Refused
-returns-in-Refused c =
-    let e = c.outline_of-judged.ensures in
-    begin_refused _ _ _ _ _ _ _ _ (sym e.answer ∙ c.in-Refused.is) c.in-Refused.is
+pub invariant_of-result : goal.invariant_of-result
+invariant_of-result c = record { handed = outlined_handed _ _ _ (λ i. omega (arith, c.type_inv.bytes i)) c.in_ok-head.ensures }
+
+pub returns : goal.returns
+returns c =
+    let same-rows : c.in_ok-head.head.tally.rows ≡ rows c.args.bytes.now = outline_rows _ _ _ c.in_ok-head.ensures in
+    let enough : room_for c.args.bytes.now c.in-Some.lines ≤ c.args.room = rw (← same-rows) c.if-room-head.false in
+    rw c.in-Some.is (begin_goes_on _ _ (outlined_head _ _ _ c.in_ok-head.ensures).0 _ enough _ refl)

@@ -6,7 +6,7 @@ use Rattle.fields.proofs.Deciding.{yes, no}
 use Rattle.beginning.proofs.interval_lines.Goals as goal
 
 pub returns-then-interval : goal.returns-then-interval
-returns-then-interval c = record { value = yes _ _ _ _ (lt-ltb _ _ c.if-interval.true) refl; upper_bound = omega arith }
+returns-then-interval c = record { counted = yes _ _ _ _ (lt-ltb _ _ c.if-interval.true) refl; few = tt }
 
 pub returns : goal.returns
-returns c = record { value = no _ _ _ _ (le-ltb _ _ c.if-interval.false) refl; upper_bound = omega (arith, c.if-interval.false) }
+returns c = record { counted = no _ _ _ _ (le-ltb _ _ c.if-interval.false) refl; few = omega (arith, c.if-interval.false) }

@@ -1,41 +1,19 @@
 -- `gap_numbered` meets its contract: a row that the sheet counts stands in the file at the place that is kept of it.
-use Prim.Native.Nat.{◌<◌}
 use native.Mathlib.Omega.{arith}
 use mathlib.Core.Path.{sym, ◌∙◌}
-use Rattle.fields.specs.Limits.{row_limit}
-use Rattle.sheet.specs.Judging.{judged}
-use Rattle.contents.proofs.Told.{row_counted, gap_told, gap_past}
+use Rattle.sheet.proofs.Answering.{outlined_head}
+use Rattle.contents.proofs.Told.{row_counted, gap_told, gap_past, gap_none}
 use Rattle.contents.proofs.gap_numbered.Goals as goal
 
-pub returns-then-tally-from : goal.returns-then-tally-from
-returns-then-tally-from c =
-    let a = c.args in
-    gap_past a.bytes.now c.outline_of-outline.result.head c.outline_of-outline.ensures.head a.from a.to (omega arith)
+pub returns-in_default : goal.returns-in_default
+returns-in_default c = gap_none _ _ _ c.in_default.ensures _ _
 
-pub row_at-requires : goal.row_at-requires
-row_at-requires c =
-    let a = c.args in
-    let counted : a.from < (judged a.bytes.now).sheet.tally.rows =
-    row_counted a.bytes.now c.outline_of-outline.result.head c.outline_of-outline.ensures.head a.from (omega arith) in c.outline_of-outline.ensures.rows.inside _ (counted)
-
--- the row's gaps stand behind its head, which is in the file
-pub gap_in-requires : goal.gap_in-requires
-gap_in-requires c =
-    let a = c.args in
-    let counted : a.from < (judged a.bytes.now).sheet.tally.rows =
-    row_counted a.bytes.now c.outline_of-outline.result.head c.outline_of-outline.ensures.head a.from (omega arith) in rw c.row_at.ensures (c.outline_of-outline.ensures.rows.inside _ (counted))
+pub returns-then-head-from : goal.returns-then-head-from
+returns-then-head-from c = gap_past _ _ (outlined_head _ _ _ c.in-Ok.ensures).1 _ _ (omega arith)
 
 pub returns : goal.returns
 returns c =
-    let a = c.args in
-    let counted : a.from < (judged a.bytes.now).sheet.tally.rows =
-    row_counted a.bytes.now c.outline_of-outline.result.head c.outline_of-outline.ensures.head a.from (omega arith) in
-    let same = c.row_at.ensures ∙ sym (c.outline_of-outline.ensures.rows.each _ (counted)) in
-    gap_told a.bytes.now c.outline_of-outline.result.head c.outline_of-outline.ensures.head a.from a.to c.row_at.result c.gap_in.result same c.gap_in.ensures (omega arith)
-
-pub offset_bounds-places-from : goal.offset_bounds-places-from
-offset_bounds-places-from c =
-    let a = c.args in
-    let counted : a.from < (judged a.bytes.now).sheet.tally.rows =
-    row_counted a.bytes.now c.outline_of-outline.result.head c.outline_of-outline.ensures.head a.from (omega arith) in
-    let within : c.args.from < row_limit = omega (arith, counted, c.outline_of-outline.ensures.rows.most) in omega (arith, within)
+    let o = c.in-Ok.ensures in
+    let is = (outlined_head _ _ _ o).1 in
+    let counted = row_counted _ _ is c.args.from (omega arith) in
+    gap_told _ _ is _ _ _ _ (c.row_at.ensures ∙ sym (o.rows.each _ counted)) c.gap_in.ensures (omega arith)

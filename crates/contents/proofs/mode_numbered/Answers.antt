@@ -2,27 +2,22 @@
 use Prim.Native.Nat.{◌<◌}
 use native.Mathlib.Omega.{arith}
 use Rattle.fields.specs.Limits.{mode_limit}
-use Rattle.contents.proofs.Told.{mode_held, mode_told, mode_past}
+use Rattle.sheet.proofs.Answering.{outlined_head}
+use Rattle.contents.proofs.Told.{mode_held, mode_told, mode_past, mode_none}
 use Rattle.contents.proofs.mode_numbered.Goals as goal
 
-pub returns-then-number-tally : goal.returns-then-number-tally
-returns-then-number-tally c =
-    let a = c.args in
-    mode_told a.bytes.now c.outline_of-outline.result.head c.outline_of-outline.ensures.head a.number (omega arith)
+pub returns-in_default : goal.returns-in_default
+returns-in_default c = mode_none _ _ _ c.in_default.ensures _
+
+pub returns-then-head-number : goal.returns-then-head-number
+returns-then-head-number c = mode_past _ _ (outlined_head _ _ _ c.in-Ok.ensures).1 _ (omega arith)
+
+pub bounds-head-number : goal.bounds-head-number
+bounds-head-number c = mode_held _ _ (outlined_head _ _ _ c.in-Ok.ensures).1 _ (λ i. omega (arith, c.type_inv.bytes i)) (omega arith)
+
+pub offset_bounds-head-number : goal.offset_bounds-head-number
+offset_bounds-head-number c =
+    let within : c.args.number < mode_limit = mode_held _ _ (outlined_head _ _ _ c.in-Ok.ensures).1 _ (λ i. omega (arith, c.type_inv.bytes i)) (omega arith) in omega (arith, within)
 
 pub returns : goal.returns
-returns c =
-    let a = c.args in
-    mode_past a.bytes.now c.outline_of-outline.result.head c.outline_of-outline.ensures.head a.number (omega arith)
-
-pub offset_bounds-modes-number : goal.offset_bounds-modes-number
-offset_bounds-modes-number c =
-    let within : c.args.number < mode_limit =
-    let a = c.args in
-    mode_held a.bytes.now c.outline_of-outline.result.head c.outline_of-outline.ensures.head a.number (λ i. omega (arith, c.type_inv.bytes i)) (omega arith) in omega (arith, within)
-
-pub bounds-modes-number : goal.bounds-modes-number
-bounds-modes-number c =
-    let within : c.args.number < mode_limit =
-    let a = c.args in
-    mode_held a.bytes.now c.outline_of-outline.result.head c.outline_of-outline.ensures.head a.number (λ i. omega (arith, c.type_inv.bytes i)) (omega arith) in omega (arith, within)
+returns c = mode_told _ _ (outlined_head _ _ _ c.in-Ok.ensures).1 _ (omega arith)

@@ -1,34 +1,19 @@
 -- `row_numbered` meets its contract: a row that the sheet counts stands in the file at the place that is kept of it.
-use Prim.Native.Nat.{◌<◌}
 use native.Mathlib.Omega.{arith}
 use mathlib.Core.Path.{sym, ◌∙◌}
-use Rattle.fields.specs.Limits.{row_limit}
-use Rattle.sheet.specs.Judging.{judged}
-use Rattle.contents.proofs.Told.{row_counted, row_told, row_past}
+use Rattle.sheet.proofs.Answering.{outlined_head}
+use Rattle.contents.proofs.Told.{row_counted, row_told, row_past, row_none}
 use Rattle.contents.proofs.row_numbered.Goals as goal
 
-pub returns-then-tally-number : goal.returns-then-tally-number
-returns-then-tally-number c =
-    let a = c.args in
-    row_past a.bytes.now c.outline_of-outline.result.head c.outline_of-outline.ensures.head a.number (omega arith)
+pub returns-in_default : goal.returns-in_default
+returns-in_default c = row_none _ _ _ c.in_default.ensures _
 
-pub row_at-row-requires : goal.row_at-row-requires
-row_at-row-requires c =
-    let a = c.args in
-    let counted : a.number < (judged a.bytes.now).sheet.tally.rows =
-    row_counted a.bytes.now c.outline_of-outline.result.head c.outline_of-outline.ensures.head a.number (omega arith) in c.outline_of-outline.ensures.rows.inside _ (counted)
+pub returns-then-head-number : goal.returns-then-head-number
+returns-then-head-number c = row_past _ _ (outlined_head _ _ _ c.in-Ok.ensures).1 _ (omega arith)
 
 pub returns : goal.returns
 returns c =
-    let a = c.args in
-    let counted : a.number < (judged a.bytes.now).sheet.tally.rows =
-    row_counted a.bytes.now c.outline_of-outline.result.head c.outline_of-outline.ensures.head a.number (omega arith) in
-    let same = c.row_at-row.ensures ∙ sym (c.outline_of-outline.ensures.rows.each _ (counted)) in
-    row_told a.bytes.now c.outline_of-outline.result.head c.outline_of-outline.ensures.head a.number c.row_at-row.result c.job_length-length.result same c.job_length-length.ensures (omega arith)
-
-pub offset_bounds-places-number : goal.offset_bounds-places-number
-offset_bounds-places-number c =
-    let a = c.args in
-    let counted : a.number < (judged a.bytes.now).sheet.tally.rows =
-    row_counted a.bytes.now c.outline_of-outline.result.head c.outline_of-outline.ensures.head a.number (omega arith) in
-    let within : c.args.number < row_limit = omega (arith, counted, c.outline_of-outline.ensures.rows.most) in omega (arith, within)
+    let o = c.in-Ok.ensures in
+    let is = (outlined_head _ _ _ o).1 in
+    let counted = row_counted _ _ is c.args.number (omega arith) in
+    row_told _ _ is _ _ _ (c.row_at-row.ensures ∙ sym (o.rows.each _ counted)) c.job_length.ensures (omega arith)

@@ -2,27 +2,22 @@
 use Prim.Native.Nat.{◌<◌}
 use native.Mathlib.Omega.{arith}
 use Rattle.fields.specs.Limits.{task_limit}
-use Rattle.contents.proofs.Told.{task_held, task_told, task_past}
+use Rattle.sheet.proofs.Answering.{outlined_head}
+use Rattle.contents.proofs.Told.{task_held, task_told, task_past, task_none}
 use Rattle.contents.proofs.task_numbered.Goals as goal
 
-pub returns-then-number-tally : goal.returns-then-number-tally
-returns-then-number-tally c =
-    let a = c.args in
-    task_told a.bytes.now c.outline_of-outline.result.head c.outline_of-outline.ensures.head a.number (omega arith)
+pub returns-in_default : goal.returns-in_default
+returns-in_default c = task_none _ _ _ c.in_default.ensures _
+
+pub returns-then-head-number : goal.returns-then-head-number
+returns-then-head-number c = task_past _ _ (outlined_head _ _ _ c.in-Ok.ensures).1 _ (omega arith)
+
+pub bounds-head-number : goal.bounds-head-number
+bounds-head-number c = task_held _ _ (outlined_head _ _ _ c.in-Ok.ensures).1 _ (λ i. omega (arith, c.type_inv.bytes i)) (omega arith)
+
+pub offset_bounds-head-number : goal.offset_bounds-head-number
+offset_bounds-head-number c =
+    let within : c.args.number < task_limit = task_held _ _ (outlined_head _ _ _ c.in-Ok.ensures).1 _ (λ i. omega (arith, c.type_inv.bytes i)) (omega arith) in omega (arith, within)
 
 pub returns : goal.returns
-returns c =
-    let a = c.args in
-    task_past a.bytes.now c.outline_of-outline.result.head c.outline_of-outline.ensures.head a.number (omega arith)
-
-pub offset_bounds-tasks-number : goal.offset_bounds-tasks-number
-offset_bounds-tasks-number c =
-    let within : c.args.number < task_limit =
-    let a = c.args in
-    task_held a.bytes.now c.outline_of-outline.result.head c.outline_of-outline.ensures.head a.number (λ i. omega (arith, c.type_inv.bytes i)) (omega arith) in omega (arith, within)
-
-pub bounds-tasks-number : goal.bounds-tasks-number
-bounds-tasks-number c =
-    let within : c.args.number < task_limit =
-    let a = c.args in
-    task_held a.bytes.now c.outline_of-outline.result.head c.outline_of-outline.ensures.head a.number (λ i. omega (arith, c.type_inv.bytes i)) (omega arith) in omega (arith, within)
+returns c = task_told _ _ (outlined_head _ _ _ c.in-Ok.ensures).1 _ (omega arith)

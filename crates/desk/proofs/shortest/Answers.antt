@@ -1,32 +1,22 @@
 -- `shortest` meets its contract: it refuses as it begins, or answers as `shortest_in` does.
-use Rattle.beginning.proofs.GoingOn.{GoesOn, goes_on, goes_answering, amount_handed}
-use Rattle.desk.specs.Calls.{ShortestCall}
+use Rattle.std.proofs.lemmas.Result.{err_from_is_err_and}
 use Rattle.beginning.proofs.Beginnings.{begun_refused}
-use Rattle.beginning.specs.Beginning.{amount_rules}
-use lib.ListN.{length}
+use Rattle.beginning.proofs.GoingOn.{begun_same, goes_answering, amount_handed}
+use Rattle.desk.specs.Calls.{ShortestCall}
 use mathlib.Core.Path.{refl}
-use native.Mathlib.Omega.{arith}
 use Rattle.desk.proofs.shortest.Goals as goal
 
 pub shortest_in-requires : goal.shortest_in-requires
 shortest_in-requires c =
-    let a = c.args in
-    let begun = c.begin_amount-begun in
-    let going : GoesOn a.bytes.now (amount_rules a.bytes.now a.amount (length a.cells.now)) begun.new.places begun.result =
-    goes_on _ _ _ _ (λ i. omega (arith, c.type_inv.bytes i)) c.begin_amount-begun.ensures c.in-Accepted.is in
-    let handed = amount_handed _ _ _ _ _ (going) in
-    record { handed = handed.0; le_amount = handed.1.0; amount_bound = handed.1.1.0; amount_in_bounds = handed.1.1.1 }
+    let handed = amount_handed _ _ _ _ c.in_ok-sheet.ensures in
+    record { some = handed.0; in_range = handed.1.0; room = handed.1.1 }
 
-pub returns-in-Refused : goal.returns-in-Refused
+pub returns-in_err-sheet : goal.returns-in_err-sheet
 unfolding ShortestCall
-returns-in-Refused c =
-    let b = c.begin_amount-begun in
-    begun_refused _ _ _ b.result b.ensures _ _ c.in-Refused.is _ _ (refl, refl)
+returns-in_err-sheet c =
+    let told = err_from_is_err_and c.from_residual.result c.from_residual.ensures.1 in
+    rw (told.1, told.2) (begun_refused _ _ _ c.in_err-sheet.ensures _ _ (refl, refl))
 
-pub returns-in-Accepted : goal.returns-in-Accepted
+pub returns : goal.returns
 unfolding ShortestCall
-returns-in-Accepted c =
-    let a = c.args in
-    let begun = c.begin_amount-begun in
-    let going : GoesOn a.bytes.now (amount_rules a.bytes.now a.amount (length a.cells.now)) begun.new.places begun.result =
-    goes_on _ _ _ _ (λ i. omega (arith, c.type_inv.bytes i)) c.begin_amount-begun.ensures c.in-Accepted.is in goes_answering _ _ _ _ (going) _ _ c.shortest_in.ensures
+returns c = goes_answering _ _ _ c.in_ok-sheet.ensures _ _ (rw (begun_same _ _ _ c.in_ok-sheet.ensures) at c.shortest_in.ensures)

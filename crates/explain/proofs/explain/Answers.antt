@@ -1,32 +1,22 @@
 -- `explain` meets its contract: it refuses as it begins, or answers as `explain_in` does.
-use Rattle.beginning.proofs.Beginnings.{begun_refused}
-use Rattle.beginning.proofs.GoingOn.{GoesOn, goes_on, goes_answering, interval_handed}
-use Rattle.beginning.specs.Beginning.{interval_rules}
-use Rattle.explain.specs.Calls.{ExplainCall}
-use lib.ListN.{length}
 use mathlib.Core.Path.{refl}
-use native.Mathlib.Omega.{arith}
+use Rattle.std.proofs.lemmas.Result.{err_from_is_err_and}
+use Rattle.beginning.proofs.Beginnings.{begun_refused}
+use Rattle.beginning.proofs.GoingOn.{begun_same, goes_answering, interval_handed}
+use Rattle.explain.specs.Calls.{ExplainCall}
 use Rattle.explain.proofs.explain.Goals as goal
 
 pub explain_in-requires : goal.explain_in-requires
 explain_in-requires c =
-    let a = c.args in
-    let begun = c.begin_interval-begun in
-    let going : GoesOn a.bytes.now (interval_rules a.bytes.now a.horizon (length a.cells.now)) begun.new.places begun.result =
-    goes_on _ _ _ _ (λ i. omega (arith, c.type_inv.bytes i)) c.begin_interval-begun.ensures c.in-Accepted.is in
-    let handed = interval_handed _ _ _ _ _ (going) in
-    record { handed = handed.0; horizon_le_longest_time = handed.1.0; horizon_in_bounds = handed.1.1 }
+    let handed = interval_handed _ _ _ _ c.in_ok-sheet.ensures in
+    record { in_range = handed.0; room = handed.1 }
 
-pub returns-in-Refused : goal.returns-in-Refused
+pub returns-in_err-sheet : goal.returns-in_err-sheet
 unfolding ExplainCall
-returns-in-Refused c =
-    let b = c.begin_interval-begun in
-    begun_refused _ _ _ b.result b.ensures _ _ c.in-Refused.is _ _ (c.without_demands.ensures, refl, refl)
+returns-in_err-sheet c =
+    let told = err_from_is_err_and c.from_residual.result c.from_residual.ensures.1 in
+    rw (told.1, told.2) (begun_refused _ _ _ c.in_err-sheet.ensures _ _ (refl, refl, refl))
 
-pub returns-in-Accepted : goal.returns-in-Accepted
+pub returns : goal.returns
 unfolding ExplainCall
-returns-in-Accepted c =
-    let a = c.args in
-    let begun = c.begin_interval-begun in
-    let going : GoesOn a.bytes.now (interval_rules a.bytes.now a.horizon (length a.cells.now)) begun.new.places begun.result =
-    goes_on _ _ _ _ (λ i. omega (arith, c.type_inv.bytes i)) c.begin_interval-begun.ensures c.in-Accepted.is in goes_answering _ _ _ _ (going) _ _ c.explain_in.ensures
+returns c = goes_answering _ _ _ c.in_ok-sheet.ensures _ _ (rw (begun_same _ _ _ c.in_ok-sheet.ensures) at c.explain_in.ensures)

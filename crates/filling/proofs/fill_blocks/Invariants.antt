@@ -1,11 +1,8 @@
-use Prim.Native.Nat.{◌-◌, ◌*◌, ◌≤◌}
+use Prim.Native.Nat.{◌*◌}
 use Rattle.meaning.specs.Cells.{Filled}
-use Rattle.tables.specs.WhichTable.{table_of}
 use Rattle.beginning.specs.Beginning.{graph}
+use Rattle.blocks.specs.Blocks.{block_size}
 use Rattle.filling.proofs.fill_blocks.Given as goal
 
-abbrev pub invariant-loop-line : goal.invariant-loop-line
-invariant-loop-line l = (l.line ≤ l.lines) × Filled l.n (table_of l.table (graph l.bytes)) l.initial.cells l.cells (l.n * l.line)
-
-abbrev pub decreases-loop-line : goal.decreases-loop-line
-decreases-loop-line l = l.lines - l.line
+abbrev pub invariant-loop-block : goal.invariant-loop-block
+invariant-loop-block g l = Filled l.rows.count (g.T.Table.right (graph l.rows.bytes.now)) l.initial.cells l.cells (l.rows.count * (l.block * block_size))

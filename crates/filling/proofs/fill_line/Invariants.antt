@@ -1,11 +1,7 @@
-use Prim.Native.Nat.{◌+◌, ◌-◌, ◌*◌, ◌≤◌}
+use Prim.Native.Nat.{◌+◌, ◌*◌}
 use Rattle.meaning.specs.Cells.{Filled}
-use Rattle.tables.specs.WhichTable.{table_of}
 use Rattle.beginning.specs.Beginning.{graph}
 use Rattle.filling.proofs.fill_line.Given as goal
 
 abbrev pub invariant-loop-k : goal.invariant-loop-k
-invariant-loop-k l = (l.k ≤ l.n) × Filled l.n (table_of l.table (graph l.bytes)) l.initial.cells l.cells (l.line * l.n + l.k)
-
-abbrev pub decreases-loop-k : goal.decreases-loop-k
-decreases-loop-k l = l.n - l.k
+invariant-loop-k g l = Filled l.rows.count (g.T.Table.right (graph l.rows.bytes.now)) l.initial.cells l.cells (l.line * l.rows.count + l.k)

@@ -1,11 +1,5 @@
-use Prim.Native.Nat.{◌+◌, ◌-◌, ◌*◌, ◌≤◌}
-use mathlib.Core.Path.{◌≡◌}
-use Rattle.blocks.specs.Blocks.{block_size}
 use Rattle.filling.specs.Reaching.{Put}
 use Rattle.filling.proofs.put_column.Given as goal
 
 abbrev pub invariant-loop-i : goal.invariant-loop-i
-invariant-loop-i l = (l.i ≤ block_size) × (l.at ≡ (l.line + l.i) * l.n + l.k) × Put l.n l.line l.k l.column l.initial.cells l.cells l.i
-
-abbrev pub decreases-loop-i : goal.decreases-loop-i
-decreases-loop-i l = block_size - l.i
+invariant-loop-i l = Put l.n l.line l.k l.column l.initial.cells l.cells l.i

@@ -1,7 +1,7 @@
 -- `marnipode_label` meets its contract.
-use borrow.Author.Rules.{rules}
-use mathlib.Core.Path.{refl, ◌∙◌}
+use mathlib.Core.Path.{◌∙◌}
+use Rattle.marnipode.proofs.Outlines.{label_outlined}
 use Rattle.marnipode.proofs.marnipode_label.Goals as goal
 
 pub returns : goal.returns
-returns c = c.label_numbers.ensures ∙ rw c.outline_of.ensures.head refl
+returns c = c.from.ensures ∙ label_outlined _ _ _ c.outline_of.ensures

@@ -5,15 +5,9 @@ use mathlib.Core.Path.{sym, ap}
 use native.Mathlib.Omega.{arith}
 use Rattle.modes.proofs.length_of.Goals as goal
 
-pub returns-then-count-number : goal.returns-then-count-number
+pub returns-then-min-number : goal.returns-then-min-number
 unfolding first_length
-returns-then-count-number c =
-    let a = c.args in
-    sym (ap first_length (none_left a.modes a.count a.number (omega arith)))
-
-pub returns-then-number-ge-MODES : goal.returns-then-number-ge-MODES
-unfolding first_length
-returns-then-number-ge-MODES c =
+returns-then-min-number c =
     let a = c.args in
     sym (ap first_length (none_left a.modes a.count a.number (omega arith)))
 

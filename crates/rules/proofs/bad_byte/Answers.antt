@@ -7,6 +7,6 @@ pub returns-then-byte-lt32 : goal.returns-then-byte-lt32
 unfolding bad_byte
 returns-then-byte-lt32 c = search judging
 
-pub returns : goal.returns
+pub returns-else-byte-lt32 : goal.returns-else-byte-lt32
 unfolding bad_byte
-returns c = search judging
+returns-else-byte-lt32 c = search judging

@@ -1,20 +1,23 @@
 -- `bad_fallback` meets its contract, test by test.
 use Rattle.fields.proofs.Deciding.{judging}
 use Rattle.rules.specs.Rules.{bad_fallback}
+use mathlib.Core.Bool.{true≢false, false}
+use mathlib.Core.Path.{◌≡◌, ◌∙◌, sym}
 use Rattle.rules.proofs.bad_fallback.Goals as goal
+use Rattle.rules.proofs.bad_fallback.Goals.{then-eq, else-eq}
 
-pub returns-then-size-eq-MODE : goal.returns-then-size-eq-MODE
+pub returns-then-lt : goal.returns-then-lt
 unfolding bad_fallback
-returns-then-size-eq-MODE c = search judging
+returns-then-lt c = elim c.if-eq.branch [ then-eq w ↦ search judging | else-eq w ↦ search judging ]
 
-pub returns-then-is_zero : goal.returns-then-is_zero
+pub returns-else-lt : goal.returns-else-lt
 unfolding bad_fallback
-returns-then-is_zero c = search judging
+returns-else-lt c =
+    elim c.if-eq.branch [
+      | then-eq w ↦ absurd (true≢false (sym w.if-eq.true ∙ sym w.value-is ∙ c.if-lt.false))
+      | else-eq w ↦ let inside : w.lt.result ≡ false = sym w.value-is ∙ c.if-lt.false in search judging
+    ]
 
-pub returns-then-above : goal.returns-then-above
+pub returns-else-size-ne-MODE : goal.returns-else-size-ne-MODE
 unfolding bad_fallback
-returns-then-above c = search judging
-
-pub returns : goal.returns
-unfolding bad_fallback
-returns c = search judging
+returns-else-size-ne-MODE c = search judging

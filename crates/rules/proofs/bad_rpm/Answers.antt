@@ -3,10 +3,10 @@ use Rattle.fields.proofs.Deciding.{judging}
 use Rattle.rules.specs.Rules.{bad_rpm}
 use Rattle.rules.proofs.bad_rpm.Goals as goal
 
-pub returns-then-is_zero : goal.returns-then-is_zero
+pub returns-then-eq : goal.returns-then-eq
 unfolding bad_rpm
-returns-then-is_zero c = search judging
+returns-then-eq c = search judging
 
-pub returns : goal.returns
+pub returns-else-eq : goal.returns-else-eq
 unfolding bad_rpm
-returns c = search judging
+returns-else-eq c = search judging

@@ -4,4 +4,4 @@ use Rattle.rules.proofs.full_of.Goals as goal
 
 pub returns : goal.returns
 unfolding full
-returns c = rw c.line_of-line.ensures
+returns c = rw c.line_of.ensures

@@ -5,8 +5,8 @@ use Rattle.rules.proofs.is_missing.Goals as goal
 
 pub returns-then-last-tag : goal.returns-then-last-tag
 unfolding missing
-returns-then-last-tag c = rw (← c.line_of-line.ensures) (search judging)
+returns-then-last-tag c = rw (← c.line_of.ensures) (search judging)
 
-pub returns : goal.returns
+pub returns-else-last-tag : goal.returns-else-last-tag
 unfolding missing
-returns c = rw (← c.line_of-line.ensures) (search judging)
+returns-else-last-tag c = search judging

@@ -1,8 +1,13 @@
--- `out_of_order` meets its contract. The loop looks at the tags below: what is left of them decides as all of them do.
-use Rattle.fields.proofs.Deciding.{judging, told, any_hit, any_miss, any_none}
-use Rattle.rules.specs.Rules.{out_of_order}
-use mathlib.Core.Path.{◌∙◌, sym}
-use native.Mathlib.Nat.{sub-zero}
+-- `out_of_order` meets its contract: of the tags below, `any` looks for one that is missing.
+use borrow.Author.Rules.{rules}
+use borrow.Author.Tests.{tests}
+use mathlib.Core.Path.{◌∙◌, refl}
+use native.Mathlib.Omega.{arith}
+use Rattle.std.proofs.lemmas.Iterator.{YieldsList-from_range}
+use Rattle.std.proofs.lemmas.Iterator.Search.{any_from_yields_List}
+use Rattle.fields.proofs.AnyFrom.{any_of_range}
+use Rattle.fields.proofs.Deciding.{judging}
+use Rattle.rules.specs.Rules.{out_of_order, missing}
 use Rattle.rules.proofs.out_of_order.Goals as goal
 
 pub returns-then-tag-last : goal.returns-then-tag-last
@@ -11,21 +16,12 @@ returns-then-tag-last c = search judging
 
 pub returns-then-tag-last-2 : goal.returns-then-tag-last-2
 unfolding out_of_order
-returns-then-tag-last-2 c = rw (← c.line_of-line.ensures) (search judging)
-
-pub loop-passed-init : goal.loop-passed-init
-unfolding out_of_order
-loop-passed-init c = rw sub-zero (sym (search judging))
-
-pub returns-then-is_missing : goal.returns-then-is_missing
-returns-then-is_missing c =
-    let l = c.loop-passed in
-    sym (l.invariant ∙ any_hit _ _ _ c.loop-passed-test.true (told _ _ _ c.is_missing.ensures c.if-is_missing.true))
-
-pub loop-passed-preserved : goal.loop-passed-preserved
-loop-passed-preserved c =
-    let l = c.loop-passed in
-    l.invariant ∙ any_miss _ _ _ c.loop-passed-test.true (told _ _ _ c.is_missing.ensures c.if-is_missing.false)
+returns-then-tag-last-2 c = rw (← c.line_of.ensures) (search judging)
 
 pub returns : goal.returns
-returns c = sym (c.loop-passed.invariant ∙ any_none _ _ _ c.loop-passed-test.false)
+unfolding out_of_order
+returns c =
+    let a = c.args in
+    let found =
+    any_from_yields_List (missing a.last) _ _ c.any.result c.any.ensures.ran (YieldsList-from_range 0 a.tag a.tag refl (omega arith)) (λ x b q k. search (rules, tests)) ∙ any_of_range (missing a.last) 0 a.tag in
+    search (judging, found)

@@ -1,11 +1,9 @@
 -- `unknown_in` meets its contract: the set's next row from the number of rows on decides.
+use mathlib.Core.Path.{◌∙◌, ap}
+use Rattle.std.specs.Prelude.{is_some}
 use Rattle.rules.specs.Rules.{unknown_in}
 use Rattle.rules.proofs.unknown_in.Goals as goal
 
-pub returns-in-At : goal.returns-in-At
+pub returns : goal.returns
 unfolding unknown_in
-returns-in-At c = rw (← c.next_from-next.ensures) (rw c.in-At.is)
-
-pub returns-in-Nothing : goal.returns-in-Nothing
-unfolding unknown_in
-returns-in-Nothing c = rw (← c.next_from-next.ensures) (rw c.in-Nothing.is)
+returns c = c.is_some.ensures ∙ ap is_some c.next_from.ensures

@@ -2,19 +2,18 @@
 use Rattle.fields.proofs.Deciding.{judging}
 use Rattle.rules.specs.Rules.{wrong_length}
 use Rattle.rules.proofs.wrong_length.Goals as goal
-
-pub returns-then-size-line : goal.returns-then-size-line
-unfolding wrong_length
-returns-then-size-line c = rw (← c.line_of-line.ensures) (search judging)
+use Rattle.rules.proofs.wrong_length.Goals.{then-size-line, else-size-line}
 
 pub returns-then-line-size : goal.returns-then-line-size
 unfolding wrong_length
-returns-then-line-size c = rw (← c.line_of-line.ensures) (search judging)
+returns-then-line-size c =
+    rw (← c.line_of-line.ensures)
+    (elim c.if-size-line.branch [ then-size-line w ↦ search judging | else-size-line w ↦ search judging ])
 
 pub returns-then-line : goal.returns-then-line
 unfolding wrong_length
 returns-then-line c = rw (← c.line_of-line.ensures) (search judging)
 
-pub returns : goal.returns
+pub returns-else-line : goal.returns-else-line
 unfolding wrong_length
-returns c = rw (← c.line_of-line.ensures) (search judging)
+returns-else-line c = rw (← c.line_of-line.ensures) (search judging)

@@ -1,54 +1,64 @@
 -- `onward` meets its contract. The row that leads on adds some work, so that it is a follower and its gap fits.
-use Prim.Native.Nat.{ℕ, ◌+◌, ◌-◌, ◌*◌, ◌^◌, ◌<◌}
-use mathlib.Core.Path.{◌≡◌, sym, ap, ◌∙◌}
+use mathlib.Core.Path.{◌≡◌}
+use mathlib.Core.List.{List}
+use Prim.Native.Nat.{ℕ, ◌+◌, ◌-◌, ◌*◌, ◌^◌, ◌≤◌, ◌<◌}
 use native.Mathlib.Omega.{arith}
-use Rattle.sets.specs.Sets.{bit}
-use Rattle.meaning.specs.Computed.{cell_at}
-use Rattle.sheet.specs.Meaning.{gap_of}
+use lib.ListN.{length}
+use Rattle.sets.specs.Sets.{below}
+use Rattle.meaning.specs.Computed.{seek, cell_at}
 use Rattle.fields.specs.Limits.{gap_size}
-use Rattle.fields.specs.Reading.{word_at}
-use Rattle.witness.specs.Stands.{onward_of}
-use Rattle.tables.proofs.Followers.{gap_of_follower, gap_inside}
-use Rattle.witness.proofs.Leading.{leads_on, lead_follows}
+use Rattle.fields.specs.Reading.{ticks_at}
+use Rattle.fields.specs.declared.units.Ticks.{Ticks}
+use Rattle.fields.specs.declared.values.Row.{Row}
+use Rattle.sheet.specs.Meaning.{gap_of}
+use Rattle.sheet.specs.Proper.{ProperRow}
+use Rattle.tables.specs.Seen.{row_in, work_in}
+use Rattle.tables.specs.declared.rows.Rows.{Rows}
+use Rattle.tables.proofs.Seen.{seen_proper}
+use Rattle.witness.specs.Stands.{leads, onward_of}
+use Rattle.witness.specs.declared.Stand.{Stand}
+use Rattle.witness.proofs.Leading.{lead_inside, lead_gap, lead_fits}
 use Rattle.witness.proofs.onward.Goals as goal
 
+-- what the goals need of the row that was read, and of the row that was found
+module _ (rows : Rows) (stand : Stand) (cells : List ℕ) (counted : stand.row < rows.count) (less : work_in rows stand.row < stand.work)
+    (goes : (onward_of (gap_of rows.bytes.now (row_in rows stand.row)) cells (work_in rows stand.row) rows.count stand).row < rows.count)
+    (row : Row) (is : row ≡ row_in rows stand.row) (fits : row.followers < 2 ^ 64)
+    (next : ℕ) (found : next ≡ seek rows.count 0 (leads (gap_of rows.bytes.now row) (cell_at rows.count cells) stand.left (stand.work - work_in rows stand.row)))
+    (before : ℕ) (count : before ≡ below row.followers next) where
+  proper : ProperRow rows.bytes.now rows.count row
+  proper = rw is (seen_proper rows stand.row counted)
+
+  within : next < rows.count
+  unfolding onward_of
+  within = rw (found, is) goes
+
+  inside : row.gaps + gap_size * before + 1 < length rows.bytes.now
+  inside = rw count (lead_inside rows.bytes.now rows.count row proper fits cells stand.left _ (omega arith) next within found)
+
+  module _ (gap : Ticks) (at : gap ≡ ticks_at rows.bytes.now (row.gaps + gap_size * before)) where
+    gap_is : gap.0 ≡ gap_of rows.bytes.now row next
+    gap_is = rw (at, count) (lead_gap rows.bytes.now rows.count row proper fits cells stand.left _ (omega arith) next within found)
+
+    gap_fits : gap.0 ≤ stand.left
+    gap_fits = rw gap_is (lead_fits rows.bytes.now rows.count row proper fits cells stand.left _ (omega arith) next within found)
+
+    same : record { row = next; left = stand.left - gap.0; work = stand.work - work_in rows stand.row }
+        ≡ onward_of (gap_of rows.bytes.now (row_in rows stand.row)) cells (work_in rows stand.row) rows.count stand
+    unfolding onward_of
+    same = rw (gap_is, found, is)
+
 pub gap_at-gap-requires : goal.gap_at-gap-requires
-unfolding onward_of
 gap_at-gap-requires c =
-    let set-fits : c.args.row.followers < 2 ^ 64 = omega (arith, c.well_formed.1.1.0) in
-    let wanted : 0 < c.args.stand.work - c.args.own = omega (arith, c.requires.own_lt_work) in
-    let found : c.next_row-next.result < c.args.n = rw c.next_row-next.ensures c.requires.stand_bound in
-    let follows : bit c.args.row.followers c.next_row-next.result ≡ 1 =
-    lead_follows _ _ _ c.requires.proper_row (set-fits) c.args.cells.now _ _ (wanted) _ (found) c.next_row-next.ensures in
-    omega (arith, c.below_row.ensures.value, gap_inside _ _ _ c.requires.proper_row (set-fits) c.next_row-next.result (follows))
+    inside c.args.rows.now c.args.stand c.args.cells.now c.requires.counted c.requires.work_left c.requires.goes_on c.row-row.result c.row-row.ensures
+    (omega (arith, c.row-row.type_inv)) c.next_row-next.result c.next_row-next.ensures _ c.below_row.ensures.value
 
 pub overflow_sub-result : goal.overflow_sub-result
-unfolding onward_of
 overflow_sub-result c =
-    let wanted : 0 < c.args.stand.work - c.args.own = omega (arith, c.requires.own_lt_work) in
-    let found : c.next_row-next.result < c.args.n = rw c.next_row-next.ensures c.requires.stand_bound in
-    let set-fits : c.args.row.followers < 2 ^ 64 = omega (arith, c.well_formed.1.1.0) in
-    let follows : bit c.args.row.followers c.next_row-next.result ≡ 1 =
-    lead_follows _ _ _ c.requires.proper_row (set-fits) c.args.cells.now _ _ (wanted) _ (found) c.next_row-next.ensures in
-    let a = c.args in
-    let gap_is : c.gap_at-gap.result.0 ≡ gap_of a.bytes.now a.row c.next_row-next.result =
-    let a = c.args in
-    ap (λ r. r.0) c.gap_at-gap.ensures
-    ∙ ap (λ (x : ℕ). word_at a.bytes.now (a.row.gaps + gap_size * x)) c.below_row.ensures.value
-    ∙ sym (gap_of_follower a.bytes.now a.row _ (follows)) in
-    rw (gap_is) (leads_on _ (gap_of c.args.bytes.now c.args.row) (cell_at c.args.n c.args.cells.now) _ _ (wanted) _ (found) c.next_row-next.ensures).1
+    gap_fits c.args.rows.now c.args.stand c.args.cells.now c.requires.counted c.requires.work_left c.requires.goes_on c.row-row.result c.row-row.ensures
+    (omega (arith, c.row-row.type_inv)) c.next_row-next.result c.next_row-next.ensures _ c.below_row.ensures.value _ c.gap_at-gap.ensures
 
 pub returns : goal.returns
-unfolding onward_of
 returns c =
-    let set-fits : c.args.row.followers < 2 ^ 64 = omega (arith, c.well_formed.1.1.0) in
-    let wanted : 0 < c.args.stand.work - c.args.own = omega (arith, c.requires.own_lt_work) in
-    let found : c.next_row-next.result < c.args.n = rw c.next_row-next.ensures c.requires.stand_bound in
-    let follows : bit c.args.row.followers c.next_row-next.result ≡ 1 =
-    lead_follows _ _ _ c.requires.proper_row (set-fits) c.args.cells.now _ _ (wanted) _ (found) c.next_row-next.ensures in
-    let a = c.args in
-    let gap_is : c.gap_at-gap.result.0 ≡ gap_of a.bytes.now a.row c.next_row-next.result =
-    let a = c.args in
-    ap (λ r. r.0) c.gap_at-gap.ensures
-    ∙ ap (λ (x : ℕ). word_at a.bytes.now (a.row.gaps + gap_size * x)) c.below_row.ensures.value
-    ∙ sym (gap_of_follower a.bytes.now a.row _ (follows)) in rw (gap_is, c.next_row-next.ensures)
+    same c.args.rows.now c.args.stand c.args.cells.now c.requires.counted c.requires.work_left c.requires.goes_on c.row-row.result c.row-row.ensures
+    (omega (arith, c.row-row.type_inv)) c.next_row-next.result c.next_row-next.ensures _ c.below_row.ensures.value _ c.gap_at-gap.ensures

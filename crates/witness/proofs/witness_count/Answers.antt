@@ -1,65 +1,14 @@
--- `witness_count` meets its contract. The rows passed are counted, and the witness goes on from where it stands.
-use Prim.Native.Nat.{◌<◌}
+-- `witness_count` meets its contract. The rows passed are counted, and the others are to come.
 use lib.ListN.{length}
-use mathlib.Core.List.{[]}
-use mathlib.Core.Path.{refl, ap, ◌∙◌}
+use mathlib.Core.Path.{ap}
 use native.Mathlib.Omega.{arith}
-use Rattle.fields.specs.Limits.{row_limit}
-use Rattle.witness.proofs.Steps.{starts_none, starts, step_row, step_inside, step_few, step_last, step_asks, step_on, count_more}
+use Rattle.witness.proofs.Steps.{starts, witness_few}
 use Rattle.witness.proofs.witness_count.Goals as goal
 
-pub start-stand-requires : goal.start-stand-requires
-start-stand-requires c = c.requires.has_lines.room
-
-pub returns-then-stand-eq0 : goal.returns-then-stand-eq0
-returns-then-stand-eq0 c =
-    ap length (starts_none _ _ _ _ c.requires.laid _ _ c.requires.has_lines _ c.start-stand.ensures c.if-stand-eq0.true)
-
-pub loop-stand-init : goal.loop-stand-init
-loop-stand-init c =
-    ([], starts _ _ _ _ c.requires.laid _ _ c.requires.has_lines _ c.start-stand.ensures c.if-stand-eq0.false, refl)
+pub loop-count-init : goal.loop-count-init
+loop-count-init c =
+    let begun = starts c.args.rows.now c.args.cells.now c.args.t c.requires.has_lines _ c.start-stand.ensures in
+    record { in_time = begun.0; stands = begun.1; counted = omega (arith, ap length begun.2) }
 
 pub overflow_add-count : goal.overflow_add-count
-overflow_add-count c =
-    let few : c.loop-stand.count < c.args.t = omega (arith, c.loop-stand.invariant.2, step_few _ _ _ _ c.requires.laid _ _ c.requires.has_lines _ _ c.loop-stand.invariant.1) in omega (arith, few, c.requires.t_le_longest_time)
-
-pub offset_bounds-lengths-k : goal.offset_bounds-lengths-k
-offset_bounds-lengths-k c =
-    let row-few : c.loop-stand.stand.row < row_limit = step_row _ _ _ _ c.requires.laid _ _ c.requires.has_lines _ _ c.loop-stand.invariant.1 in omega (arith, row-few)
-
-pub bounds-lengths-k : goal.bounds-lengths-k
-bounds-lengths-k c =
-    let row-few : c.loop-stand.stand.row < row_limit = step_row _ _ _ _ c.requires.laid _ _ c.requires.has_lines _ _ c.loop-stand.invariant.1 in omega (arith, row-few)
-
-pub returns-then-stand-own : goal.returns-then-stand-own
-returns-then-stand-own c =
-    count_more c.loop-stand.invariant.0 c.loop-stand.stand.row c.loop-stand.count c.loop-stand.invariant.2
-    ∙ ap length (step_last _ _ _ _ c.requires.laid _ _ c.requires.has_lines _ _ c.loop-stand.invariant.1 c.if-stand-own.true)
-
-pub offset_bounds-places-k : goal.offset_bounds-places-k
-offset_bounds-places-k c =
-    let row-few : c.loop-stand.stand.row < row_limit = step_row _ _ _ _ c.requires.laid _ _ c.requires.has_lines _ _ c.loop-stand.invariant.1 in omega (arith, row-few)
-
-pub bounds-places-k : goal.bounds-places-k
-bounds-places-k c =
-    let row-few : c.loop-stand.stand.row < row_limit = step_row _ _ _ _ c.requires.laid _ _ c.requires.has_lines _ _ c.loop-stand.invariant.1 in omega (arith, row-few)
-
-pub row_at-row-requires : goal.row_at-row-requires
-row_at-row-requires c =
-    step_inside _ _ _ _ c.requires.laid _ _ c.requires.has_lines _ _ c.loop-stand.invariant.1
-
-pub onward-stand-requires : goal.onward-stand-requires
-onward-stand-requires c =
-    let asked = step_asks _ _ _ _ c.requires.laid _ _ c.requires.has_lines _ _ c.loop-stand.invariant.1 c.if-stand-own.false _ c.row_at-row.ensures in
-    record { proper_row = asked.0; left_in_bounds = asked.1.0; own_lt_work = asked.1.1.0; stand_bound = asked.1.1.1 }
-
-pub loop-stand-smaller : goal.loop-stand-smaller
-loop-stand-smaller c =
-    let few : c.loop-stand.count < c.args.t = omega (arith, c.loop-stand.invariant.2, step_few _ _ _ _ c.requires.laid _ _ c.requires.has_lines _ _ c.loop-stand.invariant.1) in omega (arith, few)
-
-pub loop-stand-preserved : goal.loop-stand-preserved
-loop-stand-preserved c = (
-  _,
-  step_on _ _ _ _ c.requires.laid _ _ c.requires.has_lines _ _ c.loop-stand.invariant.1 c.if-stand-own.false _ c.row_at-row.ensures _ c.onward-stand.ensures,
-  count_more c.loop-stand.invariant.0 c.loop-stand.stand.row c.loop-stand.count c.loop-stand.invariant.2,
-)
+overflow_add-count c = omega (arith, witness_few c.args.rows.now c.args.t, c.loop-count.invariant.counted)

@@ -1,23 +1,22 @@
--- `unknown_among` meets its contract. The sets that are left decide as all of them do.
-use Rattle.fields.proofs.Deciding.{told, any_hit, any_miss, any_none}
+-- `unknown_among` meets its contract: `any` looks for a set that names a row which does not exist.
+use borrow.Author.Rules.{rules}
+use borrow.Author.Tests.{tests}
+use lib.ListN.{get_or}
+use Prim.Native.Nat.{ℕ}
+use mathlib.Core.Bool.{Bool}
+use mathlib.Core.Path.{◌∙◌, refl}
+use native.Mathlib.Omega.{arith}
+use Rattle.std.proofs.lemmas.Iterator.{YieldsList-from_range}
+use Rattle.std.proofs.lemmas.Iterator.Search.{any_from_yields_List}
+use Rattle.fields.proofs.AnyFrom.{any_of_range}
+use Rattle.rules.specs.Rules.{unknown_in}
 use Rattle.written.specs.Judging.{unknown_among}
-use mathlib.Core.Path.{◌∙◌, refl, sym}
-use native.Mathlib.Nat.{sub-zero}
 use Rattle.columns.proofs.rows.unknown_among.Goals as goal
 
-pub loop-number-init : goal.loop-number-init
-unfolding unknown_among
-loop-number-init c = rw sub-zero refl
-
-pub returns-then-unknown_in : goal.returns-then-unknown_in
-returns-then-unknown_in c =
-    let l = c.loop-number in
-    sym (l.invariant ∙ any_hit _ _ _ c.loop-number-test.true (rw (← c.set_of.ensures) (told _ _ _ c.unknown_in.ensures c.if-unknown_in.true)))
-
-pub loop-number-preserved : goal.loop-number-preserved
-loop-number-preserved c =
-    let l = c.loop-number in
-    l.invariant ∙ any_miss _ _ _ c.loop-number-test.true (rw (← c.set_of.ensures) (told _ _ _ c.unknown_in.ensures c.if-unknown_in.false))
-
 pub returns : goal.returns
-returns c = sym (c.loop-number.invariant ∙ any_none _ _ _ c.loop-number-test.false)
+unfolding unknown_among
+returns c =
+    let a = c.args in
+    let unknown : ℕ → Bool = λ k. unknown_in (get_or a.sets.now k 0) a.count in
+    any_from_yields_List unknown _ _ c.any.result c.any.ensures.ran (YieldsList-from_range 0 a.count a.count refl (omega arith)) (λ x b q k. search (rules, tests))
+    ∙ any_of_range unknown 0 a.count

@@ -1,54 +1,30 @@
 -- `demand_in` meets its contract: what it reads off the filled lines is the demand and its witness.
-use Prim.Native.Nat.{◌+◌, ◌≤◌, ◌*◌}
-use Rattle.beginning.specs.Beginning.{graph}
-use Rattle.tables.specs.Lines.{HasLines}
-use Rattle.desk.proofs.Telling.{room_told, lines_told, demand_as, demand_shown}
-use Rattle.desk.specs.Calls.{DemandAnswers}
-use Rattle.meaning.specs.Cells.{ByInterval}
-use Rattle.witness.specs.declared.Shown.{Shown}
+use Prim.Native.Nat.{◌+◌, ◌*◌, ◌≤◌}
 use lib.ListN.{length}
-use mathlib.Core.Path.{subst}
-use native.Mathlib.Omega.{arith}
+use Rattle.std.specs.Prelude.{Ok, Err}
+use Rattle.std.proofs.lemmas.Result.{err_from_is_err_and}
+use Rattle.meaning.specs.Cells.{ByInterval, Filled}
+use Rattle.beginning.specs.Beginning.{graph}
+use Rattle.desk.proofs.Telling.{room_told, demand_shown}
+use Rattle.desk.proofs.answering.demand_in.Goals.{After-fill}
 use Rattle.desk.proofs.answering.demand_in.Goals as goal
 
-pub fill-requires : goal.fill-requires
-fill-requires c =
-    let room : c.args.head.tally.rows * (c.args.t + 1) ≤ length c.args.cells.now = room_told _ _ _ c.requires.handed (c.args.t + 1) c.args.cells.now c.requires.t_in_bounds in
-    record { laid = c.job_lengths-lengths.ensures; lines_bound = omega (arith, c.requires.t_le_longest_time); lines_in_bounds = room }
+-- there is room for the lines, and they are filled
+room : (c : After-fill) → c.args.sheet.now.head.tally.rows * (c.args.t + 1) ≤ length c.args.cells.now
+room c = room_told c.args.sheet.now (c.args.t + 1) c.args.cells.now c.requires.room
 
-pub demand_of-amount-requires : goal.demand_of-amount-requires
-demand_of-amount-requires c =
-    let room : c.args.head.tally.rows * (c.args.t + 1) ≤ length c.args.cells.now = room_told _ _ _ c.requires.handed (c.args.t + 1) c.args.cells.now c.requires.t_in_bounds in
-    let a = c.args in
-    let table : HasLines a.head.tally.rows (ByInterval (graph a.bytes.now)) c.fill.new.cells (a.t + 1) =
-    lines_told _ _ _ c.requires.handed _ _ _ (room) c.fill.ensures in (table).room
+filled : (c : After-fill) → Filled c.args.sheet.now.head.tally.rows (ByInterval (graph c.args.sheet.now.bytes.now)) c.args.cells.now c.fill.new.cells (c.args.sheet.now.head.tally.rows * (c.args.t + 1))
+filled c = rw (c.rows-rows.ensures.bytes, c.rows-rows.ensures.count) at c.fill.ensures
 
-pub show_witness-requires : goal.show_witness-requires
-show_witness-requires c =
-    let room : c.args.head.tally.rows * (c.args.t + 1) ≤ length c.args.cells.now = room_told _ _ _ c.requires.handed (c.args.t + 1) c.args.cells.now c.requires.t_in_bounds in
-    let a = c.args in
-    let table : HasLines a.head.tally.rows (ByInterval (graph a.bytes.now)) c.fill.new.cells (a.t + 1) =
-    lines_told _ _ _ c.requires.handed _ _ _ (room) c.fill.ensures in
-    record { laid = c.job_lengths-lengths.ensures; t_le_longest_time = c.requires.t_le_longest_time; has_lines = table }
+pub returns-in_err-count : goal.returns-in_err-count
+returns-in_err-count c =
+    let at = (goal.at.returns-in_err-count c).After-fill in
+    let told = err_from_is_err_and c.from_residual.result c.from_residual.ensures.1 in
+    rw (told.1, told.2) (demand_shown c.args.sheet.now _ _ _ (room at) (filled at) _ _ _ (Err c.in_err-count.field-0.0)
+    (rw c.rows-rows.ensures.count at c.demand_of-amount.ensures) (rw c.rows-rows.ensures.bytes at c.in_err-count.ensures))
 
-pub returns-in-Rows : goal.returns-in-Rows
-returns-in-Rows c =
-    let room : c.args.head.tally.rows * (c.args.t + 1) ≤ length c.args.cells.now = room_told _ _ _ c.requires.handed (c.args.t + 1) c.args.cells.now c.requires.t_in_bounds in
-    let a = c.args in
-    let f = c.fill in
-    let amount = c.demand_of-amount in
-    let w = c.show_witness in
-    let area = w.new.area in
-    subst (λ (x : Shown). DemandAnswers a.bytes.now a.t a.cells.now a.area.now (demand_as amount.result x) f.new.cells area) c.in-Rows.is
-    (demand_shown _ _ _ c.requires.handed _ _ _ room f.ensures _ a.area.now area w.result amount.ensures w.ensures)
-
-pub returns-in-TooLong : goal.returns-in-TooLong
-returns-in-TooLong c =
-    let room : c.args.head.tally.rows * (c.args.t + 1) ≤ length c.args.cells.now = room_told _ _ _ c.requires.handed (c.args.t + 1) c.args.cells.now c.requires.t_in_bounds in
-    let a = c.args in
-    let f = c.fill in
-    let amount = c.demand_of-amount in
-    let w = c.show_witness in
-    let area = w.new.area in
-    subst (λ (x : Shown). DemandAnswers a.bytes.now a.t a.cells.now a.area.now (demand_as amount.result x) f.new.cells area) c.in-TooLong.is
-    (demand_shown _ _ _ c.requires.handed _ _ _ room f.ensures _ a.area.now area w.result amount.ensures w.ensures)
+pub returns : goal.returns
+returns c =
+    let at = (goal.at.returns c).After-fill in
+    demand_shown c.args.sheet.now _ _ _ (room at) (filled at) _ _ _ (Ok c.in_ok-count.count)
+    (rw c.rows-rows.ensures.count at c.demand_of-amount.ensures) (rw c.rows-rows.ensures.bytes at c.in_ok-count.ensures)

@@ -1,53 +1,41 @@
 -- `margin_in` meets its contract: what it reads off the filled lines is the demand, and the two demands together fit well.
-use Prim.Native.Nat.{◌^◌, ℕ, ◌+◌, ◌<◌, ◌*◌, ◌≤◌}
+use Prim.Native.Nat.{◌^◌, ◌+◌, ◌<◌, ◌*◌, ◌≤◌}
 use Rattle.beginning.specs.Beginning.{graph}
-use Rattle.tables.specs.Lines.{HasLines}
-use Rattle.desk.proofs.Telling.{tasks_proper, room_told, lines_told, margin_told, difference_kept}
+use Rattle.desk.proofs.Telling.{room_told, margin_told, difference_kept}
 use Rattle.overruns.proofs.ProperTasks.{tasks_fit}
-use Rattle.meaning.specs.Cells.{ByInterval}
+use Rattle.meaning.specs.Cells.{ByInterval, Filled}
 use lib.ListN.{length}
-use lib.IntN.{ℤ, pos, ◌-ℤ◌}
-use mathlib.Core.Path.{◌≡◌, ◌∙◌, sym, ap, subst}
+use lib.IntN.{ℤ}
+use mathlib.Core.Path.{◌∙◌, ap}
 use mir.Syntax.{w64}
 use mir.Val.{to_z, of_z}
 use native.Mathlib.Omega.{arith}
+use Rattle.desk.proofs.answering.margin_in.Goals.{After-fill}
 use Rattle.desk.proofs.answering.margin_in.Goals as goal
 
-pub fill-requires : goal.fill-requires
-fill-requires c =
-    let room : c.args.head.tally.rows * (c.args.t + 1) ≤ length c.args.cells.now = room_told _ _ _ c.requires.handed (c.args.t + 1) c.args.cells.now c.requires.t_in_bounds in
-    record { laid = c.job_lengths-lengths.ensures; lines_bound = omega (arith, c.requires.t_le_longest_time); lines_in_bounds = room }
+-- there is room for the lines, and they are filled
+room : (c : After-fill) → c.args.sheet.now.head.tally.rows * (c.args.t + 1) ≤ length c.args.cells.now
+room c = room_told c.args.sheet.now (c.args.t + 1) c.args.cells.now c.requires.room
 
-pub demand_of-amount-requires : goal.demand_of-amount-requires
-demand_of-amount-requires c =
-    let room : c.args.head.tally.rows * (c.args.t + 1) ≤ length c.args.cells.now = room_told _ _ _ c.requires.handed (c.args.t + 1) c.args.cells.now c.requires.t_in_bounds in
-    let a = c.args in
-    let table : HasLines a.head.tally.rows (ByInterval (graph a.bytes.now)) c.fill.new.cells (a.t + 1) =
-    lines_told _ _ _ c.requires.handed _ _ _ (room) c.fill.ensures in (table).room
+filled : (c : After-fill) → Filled c.args.sheet.now.head.tally.rows (ByInterval (graph c.args.sheet.now.bytes.now)) c.args.cells.now c.fill.new.cells (c.args.sheet.now.head.tally.rows * (c.args.t + 1))
+filled c = rw (c.rows-rows.ensures.bytes, c.rows-rows.ensures.count) at c.fill.ensures
 
-pub fixed_sum-fixed-requires : goal.fixed_sum-fixed-requires
-fixed_sum-fixed-requires c =
-    record { proper_tasks = tasks_proper _ _ _ c.requires.handed; t_le_longest_time = c.requires.t_le_longest_time }
+pub overflow_add-engine : goal.overflow_add-engine
+overflow_add-engine c =
+    let small : c.demand_at-fixed.result < 2 ^ 48 = rw c.demand_at-fixed.ensures (tasks_fit _ _ c.new.result.proper _ c.requires.in_range) in
+    omega (arith, small)
 
-pub overflow_add-amount : goal.overflow_add-amount
-overflow_add-amount c =
-    let sum_fits : c.fixed_sum-fixed.result < 2 ^ 48 =
-    subst (λ (x : ℕ). x < 2 ^ 48) (sym c.fixed_sum-fixed.ensures) (tasks_fit _ _ (tasks_proper _ _ _ c.requires.handed) _ c.requires.t_le_longest_time) in omega (arith, sum_fits)
-
-pub less-margin-requires : goal.less-margin-requires
-less-margin-requires c =
-    let sum_fits : c.fixed_sum-fixed.result < 2 ^ 48 =
-    subst (λ (x : ℕ). x < 2 ^ 48) (sym c.fixed_sum-fixed.ensures) (tasks_fit _ _ (tasks_proper _ _ _ c.requires.handed) _ c.requires.t_le_longest_time) in (omega (arith, sum_fits), omega (arith, sum_fits))
+pub less-requires : goal.less-requires
+less-requires c =
+    let small : c.demand_at-fixed.result < 2 ^ 48 = rw c.demand_at-fixed.ensures (tasks_fit _ _ c.new.result.proper _ c.requires.in_range) in
+    (omega arith, omega (arith, small))
 
 pub returns : goal.returns
 returns c =
-    let room : c.args.head.tally.rows * (c.args.t + 1) ≤ length c.args.cells.now = room_told _ _ _ c.requires.handed (c.args.t + 1) c.args.cells.now c.requires.t_in_bounds in
-    let sum_fits : c.fixed_sum-fixed.result < 2 ^ 48 =
-    subst (λ (x : ℕ). x < 2 ^ 48) (sym c.fixed_sum-fixed.ensures) (tasks_fit _ _ (tasks_proper _ _ _ c.requires.handed) _ c.requires.t_le_longest_time) in
-    let amount = c.demand_of-amount in
-    let fixed = c.fixed_sum-fixed in
-    let small : c.args.t < 2 ^ 63 = omega arith in
-    let sum : amount.result + fixed.result < 2 ^ 63 = omega (arith, sum_fits) in
-    let left : c.less-margin.result ≡ pos c.args.t -ℤ pos (amount.result + fixed.result) = c.less-margin.ensures in
-    margin_told _ _ _ c.requires.handed _ _ _ (room) c.fill.ensures
-    _ _ _ amount.ensures fixed.ensures (ap (λ (z : ℤ). to_z w64 (of_z w64 z)) left ∙ difference_kept _ _ small sum)
+    let at = (goal.at.returns c).After-fill in
+    let small : c.demand_at-fixed.result < 2 ^ 48 = rw c.demand_at-fixed.ensures (tasks_fit _ _ c.new.result.proper _ c.requires.in_range) in
+    let interval_fits : c.args.t < 2 ^ 63 = omega arith in
+    let demands_fit : c.demand_of-engine.result + c.demand_at-fixed.result < 2 ^ 63 = omega (arith, small) in
+    margin_told c.args.sheet.now _ _ _ (room at) (filled at) _ _ _
+    (rw c.rows-rows.ensures.count at c.demand_of-engine.ensures) (rw (c.new.ensures.0, c.new.ensures.1) at c.demand_at-fixed.ensures)
+    (ap (λ (z : ℤ). to_z w64 (of_z w64 z)) c.less.ensures ∙ difference_kept _ _ interval_fits demands_fit)

@@ -1,29 +1,27 @@
--- `shortest_in` meets its contract: what it reads off the last filled line is the shortest interval, and no time is 14.
+-- `shortest_in` meets its contract: what it reads off the last filled line is the shortest interval, and no time is refused.
 use Prim.Native.Nat.{◌*◌, ◌≤◌}
-use Rattle.desk.proofs.Telling.{room_told, shortest_answers, gives_none, gives_time}
-use Rattle.tables.proofs.Lines.{room_for_fewer}
 use lib.ListN.{length}
-use native.Mathlib.Omega.{arith}
+use Rattle.meaning.specs.Cells.{ByAmount, Filled}
+use Rattle.beginning.specs.Beginning.{graph}
+use Rattle.desk.proofs.Telling.{room_told, shortest_answers, gives_none, gives_time}
+use Rattle.desk.proofs.answering.shortest_in.Goals.{After-fill}
 use Rattle.desk.proofs.answering.shortest_in.Goals as goal
 
-pub fill-requires : goal.fill-requires
-fill-requires c =
-    let room : c.args.head.tally.rows * c.args.amount ≤ length c.args.cells.now = room_told _ _ _ c.requires.handed c.args.amount c.args.cells.now c.requires.amount_in_bounds in
-    record { laid = c.job_lengths-lengths.ensures; lines_bound = c.requires.amount_bound; lines_in_bounds = room }
+-- there is room for the lines, and they are filled
+room : (c : After-fill) → c.args.sheet.now.head.tally.rows * c.args.amount ≤ length c.args.cells.now
+room c = room_told c.args.sheet.now c.args.amount c.args.cells.now c.requires.room
 
-pub shortest_of-time-requires : goal.shortest_of-time-requires
-shortest_of-time-requires c =
-    let room : c.args.head.tally.rows * c.args.amount ≤ length c.args.cells.now = room_told _ _ _ c.requires.handed c.args.amount c.args.cells.now c.requires.amount_in_bounds in
-    record { le_amount = omega (arith, c.requires.le_amount); amount_in_bounds = rw c.fill.ensures.same_length (room_for_fewer _ c.args.amount _ _ (omega (arith, c.requires.le_amount)) (room)) }
+filled : (c : After-fill) → Filled c.args.sheet.now.head.tally.rows (ByAmount (graph c.args.sheet.now.bytes.now)) c.args.cells.now c.fill.new.cells (c.args.sheet.now.head.tally.rows * c.args.amount)
+filled c = rw (c.rows-rows.ensures.bytes, c.rows-rows.ensures.count) at c.fill.ensures
 
 pub returns-then-time : goal.returns-then-time
 returns-then-time c =
-    let room : c.args.head.tally.rows * c.args.amount ≤ length c.args.cells.now = room_told _ _ _ c.requires.handed c.args.amount c.args.cells.now c.requires.amount_in_bounds in
-    shortest_answers _ _ _ c.requires.handed _ c.requires.le_amount _ _ (room) c.fill.ensures
-    _ _ c.shortest_of-time.ensures (gives_none _ c.if-time.true)
+    let at = (goal.at.returns-then-time c).After-fill in
+    rw c.from.ensures (shortest_answers c.args.sheet.now _ c.requires.some _ _ (room at) (filled at)
+    _ _ (rw c.rows-rows.ensures.count at c.shortest_of-time.ensures) (gives_none _ c.if-time.true))
 
 pub returns : goal.returns
 returns c =
-    let room : c.args.head.tally.rows * c.args.amount ≤ length c.args.cells.now = room_told _ _ _ c.requires.handed c.args.amount c.args.cells.now c.requires.amount_in_bounds in
-    shortest_answers _ _ _ c.requires.handed _ c.requires.le_amount _ _ (room) c.fill.ensures
-    _ _ c.shortest_of-time.ensures (gives_time _ c.if-time.false)
+    let at = (goal.at.returns c).After-fill in
+    shortest_answers c.args.sheet.now _ c.requires.some _ _ (room at) (filled at)
+    _ _ (rw c.rows-rows.ensures.count at c.shortest_of-time.ensures) (gives_time _ c.if-time.false)

@@ -1,11 +1,7 @@
-use Prim.Native.Nat.{◌-◌, ◌≤◌}
 use Rattle.explain.proofs.TaskDemands.{demands_up_to}
 use Rattle.overruns.specs.Releases.{counted_tasks}
 use mathlib.Core.Path.{◌≡◌}
 use Rattle.explain.proofs.demands.demands_at.Given as goal
 
-abbrev pub invariant-loop-i : goal.invariant-loop-i
-invariant-loop-i l = (l.i ≤ l.count) × (l.demands ≡ demands_up_to (counted_tasks l.tasks l.count) l.t l.i)
-
-abbrev pub decreases-loop-i : goal.decreases-loop-i
-decreases-loop-i l = l.count - l.i
+abbrev pub invariant-loop-number : goal.invariant-loop-number
+invariant-loop-number l = l.demands ≡ demands_up_to (counted_tasks l.tasks.tasks l.tasks.count) l.t l.number

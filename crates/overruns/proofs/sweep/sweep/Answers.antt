@@ -1,88 +1,40 @@
 -- `sweep` meets its contract. Fixed demand runs along with the intervals, and none of those passed is overrun.
-use Prim.Native.Nat.{◌+◌, ◌*◌, ◌^◌, ◌≤◌, ◌<◌}
-use Rattle.overruns.proofs.Releases.{Running}
-use Rattle.overruns.proofs.ProperTasks.{tasks_count, tasks_fit, running_start}
-use Rattle.overruns.proofs.Sweeping.{table_decides, sweeping_start, running_next, sweeping_on, sweeping_overrun, sweeping_holds}
-use Rattle.overruns.specs.Releases.{counted_tasks}
-use lib.ListN.{length}
-use mathlib.Core.Path.{◌≡◌}
-use native.Mathlib.Nat.{mul-le-mul}
+use Prim.Native.Nat.{◌+◌, ◌^◌, ◌<◌}
 use native.Mathlib.Omega.{arith}
+use Rattle.overruns.proofs.Sweeping.{Sweeping, sweeping_start, fixed_few, sweeping_on, sweeping_overrun, sweeping_holds}
+use Rattle.overruns.proofs.sweep.sweep.Given.{Over}
+use Rattle.overruns.proofs.sweep.sweep.Goals.{After-advance-fixed, Else-overrun_at}
 use Rattle.overruns.proofs.sweep.sweep.Goals as goal
 
 pub loop-t-init : goal.loop-t-init
-loop-t-init c = sweeping_start _ _ _ _ _ _ c.times_of-times.ensures.room
+loop-t-init g c = sweeping_start _ _ _ c.args.tasks.now.proper _ c.new-dues.ensures
 
-pub overflow_add-t : goal.overflow_add-t
-overflow_add-t c = omega (arith, c.requires.horizon_le_longest_time)
-
-pub advance-fixed-requires : goal.advance-fixed-requires
-advance-fixed-requires c =
-    let i = c.before.before.before in
-    let s = i.before.before.before.before.before.before.before in
-    record { dues_len = i.loop-t.invariant.room; count_le_task_limit = s.requires.proper_tasks.most; t_le_longest_time = omega (arith, s.requires.horizon_le_longest_time, i.loop-t-test.true) }
+-- fixed demand at the interval
+small : (g : Over) (c : After-advance-fixed g) → c.loop-t.fixed + c.advance-fixed.result < 2 ^ 48
+small g c = fixed_few _ _ _ c.args.tasks.now.proper c.args.horizon _ _ _ c.loop-t.invariant _ _ c.advance-fixed.ensures (omega (arith, c.requires.in_range, c.loop-t-test.true))
 
 pub overflow_add-fixed : goal.overflow_add-fixed
-overflow_add-fixed c =
-    let counted : length (counted_tasks c.args.tasks c.args.count) ≡ c.args.count = tasks_count _ _ c.requires.proper_tasks in
-    let times = c.times_of-times.result in
-    let a = c.args in
-    let begun : Running (counted_tasks a.tasks a.count) times.lengths times.periods times.dues 0 0 = running_start _ _ c.requires.proper_tasks _ c.times_of-times.ensures in
-    let small : c.loop-t.fixed + c.advance-fixed.result < 2 ^ 48 =
-    let i = c.before.before.before.before in
-    let s = i.before.before.before.before.before.before.before in
-    omega (
-      arith,
-      (running_next _ _ _ _ _ _ _ _ _ i.loop-t.invariant _ _ c.advance-fixed.ensures _ (counted) (begun)).sum_is,
-      tasks_fit _ _ s.requires.proper_tasks (i.loop-t.t + 1) (omega (arith, s.requires.horizon_le_longest_time, i.loop-t-test.true)),
-    ) in omega (arith, small)
+overflow_add-fixed g c = omega (arith, small g c)
 
-pub overrun_at-requires : goal.overrun_at-requires
-overrun_at-requires c =
-    let counted : length (counted_tasks c.args.tasks c.args.count) ≡ c.args.count = tasks_count _ _ c.requires.proper_tasks in
-    let times = c.times_of-times.result in
-    let a = c.args in
-    let begun : Running (counted_tasks a.tasks a.count) times.lengths times.periods times.dues 0 0 = running_start _ _ c.requires.proper_tasks _ c.times_of-times.ensures in
-    let small : c.loop-t.fixed + c.advance-fixed.result < 2 ^ 48 =
-    let i = c.before.before.before.before in
-    let s = i.before.before.before.before.before.before.before in
-    omega (
-      arith,
-      (running_next _ _ _ _ _ _ _ _ _ i.loop-t.invariant _ _ c.advance-fixed.ensures _ (counted) (begun)).sum_is,
-      tasks_fit _ _ s.requires.proper_tasks (i.loop-t.t + 1) (omega (arith, s.requires.horizon_le_longest_time, i.loop-t-test.true)),
-    ) in
-    let i = c.before.before.before.before in
-    let s = i.before.before.before.before.before.before.before in
-    let fewer : s.args.n * (i.loop-t.t + 1 + 1) ≤ s.args.n * (s.args.horizon + 1) =
-    mul-le-mul (omega arith) (omega (arith, i.loop-t-test.true)) in
-    record { t_in_bounds = omega (arith, s.requires.horizon_in_bounds); t_le_longest_time = omega (arith, s.requires.horizon_le_longest_time, i.loop-t-test.true); fixed_bound = small }
+pub overrun_at-requires-clause-fixed_bound : goal.overrun_at-requires-clause-fixed_bound
+overrun_at-requires-clause-fixed_bound g c = small g (goal.at.overrun_at-requires-clause-fixed_bound g c).After-advance-fixed
 
 pub returns-then-overrun_at : goal.returns-then-overrun_at
-returns-then-overrun_at c =
-    let counted : length (counted_tasks c.args.tasks c.args.count) ≡ c.args.count = tasks_count _ _ c.requires.proper_tasks in
-    let times = c.times_of-times.result in
-    let a = c.args in
-    let begun : Running (counted_tasks a.tasks a.count) times.lengths times.periods times.dues 0 0 = running_start _ _ c.requires.proper_tasks _ c.times_of-times.ensures in
-    let i = c.before.before.before.before.before.before in
-    let s = i.before.before.before.before.before.before.before in
-    λ g sound is lines. sweeping_overrun _ _ _ _ _ _ _ _ _ i.loop-t.invariant _ _ c.advance-fixed.ensures i.loop-t-test.true
-    (rw (← c.overrun_at.ensures) c.if-overrun_at.true) _ _ (counted) (begun) (table_decides s.args.table g sound _ is _ _ _ s.requires.horizon_le_longest_time lines)
+returns-then-overrun_at g c = λ graph sound is lines.
+    sweeping_overrun _ _ _ c.args.tasks.now.proper _ _ _ _ c.loop-t.invariant _ _ c.advance-fixed.ensures c.loop-t-test.true
+    (rw (← c.overrun_at.ensures) c.if-overrun_at.true) graph (g.met.T.Sweepable.is_test graph sound _ is _ _ _ c.requires.in_range lines)
 
-pub loop-t-smaller : goal.loop-t-smaller
-loop-t-smaller c = omega (arith, c.loop-t-test.true)
-
-pub loop-t-preserved : goal.loop-t-preserved
-loop-t-preserved c =
-    let i = c.before.before.before.before.before.before in
-    sweeping_on _ _ _ _ _ _ _ _ _ i.loop-t.invariant _ _ c.advance-fixed.ensures i.loop-t-test.true
+-- it is not overrun
+passed : (g : Over) (c : Else-overrun_at g)
+    → Sweeping (g.T.Sweepable.overrun_at c.args.n c.args.cells.now) c.args.tasks.now.tasks c.args.tasks.now.count c.advance-fixed.new.self.next (c.loop-t.fixed + c.advance-fixed.result) (c.loop-t.t + 1)
+passed g c =
+    sweeping_on _ _ _ c.args.tasks.now.proper c.args.horizon _ _ _ c.loop-t.invariant _ _ c.advance-fixed.ensures
     (rw (← c.overrun_at.ensures) c.if-overrun_at.false)
 
-pub returns : goal.returns
-returns c =
-    let counted : length (counted_tasks c.args.tasks c.args.count) ≡ c.args.count = tasks_count _ _ c.requires.proper_tasks in
-    let times = c.times_of-times.result in
-    let a = c.args in
-    let begun : Running (counted_tasks a.tasks a.count) times.lengths times.periods times.dues 0 0 = running_start _ _ c.requires.proper_tasks _ c.times_of-times.ensures in
-    let s = c.before.before.before.before.before.before.before in
-    λ g sound is lines. sweeping_holds _ _ _ _ _ _ _ _ _ c.loop-t.invariant c.loop-t-test.false _ _ (counted) (begun)
-    (table_decides s.args.table g sound _ is _ _ _ s.requires.horizon_le_longest_time lines)
+pub loop-t-preserved : goal.loop-t-preserved
+loop-t-preserved g c = passed g (goal.at.loop-t-preserved g c).Else-overrun_at
+
+pub returns-else-overrun_at : goal.returns-else-overrun_at
+returns-else-overrun_at g c = λ graph sound is lines.
+    sweeping_holds _ _ _ c.args.tasks.now.proper _ _ _ _ (passed g (goal.at.returns-else-overrun_at g c).Else-overrun_at) (omega arith) graph
+    (g.met.T.Sweepable.is_test graph sound _ is _ _ _ c.requires.in_range lines)

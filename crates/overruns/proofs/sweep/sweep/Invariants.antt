@@ -1,10 +1,5 @@
-use Prim.Native.Nat.{◌-◌}
 use Rattle.overruns.proofs.Sweeping.{Sweeping}
-use Rattle.overruns.specs.Sweeping.{overrun_at}
 use Rattle.overruns.proofs.sweep.sweep.Given as goal
 
 abbrev pub invariant-loop-t : goal.invariant-loop-t
-invariant-loop-t l = Sweeping (overrun_at l.table l.n l.cells) l.count l.horizon l.lengths l.periods l.initial.dues l.dues l.fixed l.t
-
-abbrev pub decreases-loop-t : goal.decreases-loop-t
-decreases-loop-t l = l.horizon - l.t
+invariant-loop-t g l = Sweeping (g.T.Sweepable.overrun_at l.n l.cells) l.tasks.tasks l.tasks.count l.dues.next l.fixed l.t

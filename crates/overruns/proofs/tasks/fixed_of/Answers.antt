@@ -6,45 +6,30 @@ use Rattle.meaning.specs.Demand.{longest_time}
 use mathlib.Core.Path.{◌≡◌, ◌∙◌, sym, ap}
 use native.Mathlib.Nat.{div-le_self, mul-le-mul}
 use native.Mathlib.Omega.{arith}
+use Rattle.overruns.proofs.tasks.fixed_of.Goals.{After-whole_periods-jobs}
 use Rattle.overruns.proofs.tasks.fixed_of.Goals as goal
 
+-- before the first job falls due
 pub returns-then-t-first : goal.returns-then-t-first
 returns-then-t-first c =
-    let s = c in
-    (sym (fixed_before (times_of s.args.task) s.args.t (omega (arith, c.if-t-first.true, c.first_due-first.ensures, s.requires.proper_task.jitter))), omega arith)
+    (sym (fixed_before (times_of c.args.task) c.args.t (omega (arith, c.if-t-first.true, c.first_due-first.ensures, c.requires.proper_task.jitter))), omega arith)
 
-pub whole_periods-jobs-requires : goal.whole_periods-jobs-requires
-whole_periods-jobs-requires c =
-    let s = c in
-    record { le_period = omega (arith, s.requires.proper_task.period); time_le_longest_time = omega (arith, s.requires.t_le_longest_time) }
+-- the whole periods are no more than the ticks
+periods_few : (c : After-whole_periods-jobs) → c.whole_periods-jobs.result ≤ longest_time
+periods_few c = omega (arith, c.whole_periods-jobs.ensures, div-le_self (c.args.t - c.first_due-first.result) c.args.task.period.0, c.requires.in_range)
 
-pub overflow_add-jobs : goal.overflow_add-jobs
-overflow_add-jobs c =
-    let few : c.whole_periods-jobs.result ≤ longest_time =
-    let s = c in
-    omega (arith, c.whole_periods-jobs.ensures, div-le_self (s.args.t - c.first_due-first.result) s.args.task.period.0, s.requires.t_le_longest_time) in omega (arith, few)
+-- so what is asked for fits
+work_few : (c : After-whole_periods-jobs) → c.args.task.length.0 * (1 + c.whole_periods-jobs.result) ≤ longest_time * (longest_time + 1)
+work_few c = mul-le-mul {m₁ = 1 + c.whole_periods-jobs.result} {n₂ = longest_time} {m₂ = longest_time + 1} c.requires.proper_task.length.1 (omega (arith, periods_few c))
 
-pub overflow_mul-result : goal.overflow_mul-result
-overflow_mul-result c =
-    let few : c.whole_periods-jobs.result ≤ longest_time =
-    let s = c in
-    omega (arith, c.whole_periods-jobs.ensures, div-le_self (s.args.t - c.first_due-first.result) s.args.task.period.0, s.requires.t_le_longest_time) in
-    let small : c.args.task.length.0 * (1 + c.whole_periods-jobs.result) ≤ longest_time * (longest_time + 1) = mul-le-mul {m₁ = 1 + c.whole_periods-jobs.result} {n₂ = longest_time} {m₂ = longest_time + 1} (omega arith) (omega (arith, few)) in
-    omega (arith, small)
-
+-- from then on
 pub returns : goal.returns
 returns c =
-    let a = c.args in
-    let periods : c.whole_periods-jobs.result ≡ (a.t + a.task.jitter.0 - a.task.deadline.0) / a.task.period.0 =
-    let s = c in
-    let same : s.args.t - c.first_due-first.result ≡ s.args.t + s.args.task.jitter.0 - s.args.task.deadline.0 =
-    omega (arith, c.if-t-first.false, c.first_due-first.ensures, s.requires.proper_task.jitter) in
-    c.whole_periods-jobs.ensures ∙ ap (λ (time : ℕ). time / s.args.task.period.0) same in
-    let few : c.whole_periods-jobs.result ≤ longest_time =
-    let s = c in
-    omega (arith, c.whole_periods-jobs.ensures, div-le_self (s.args.t - c.first_due-first.result) s.args.task.period.0, s.requires.t_le_longest_time) in
-    let small : c.args.task.length.0 * (1 + c.whole_periods-jobs.result) ≤ longest_time * (longest_time + 1) = mul-le-mul {m₁ = 1 + c.whole_periods-jobs.result} {n₂ = longest_time} {m₂ = longest_time + 1} (omega arith) (omega (arith, few)) in
-    let i = c in
-    let s = c in
-    let from : s.args.task.deadline.0 ≤ s.args.t + s.args.task.jitter.0 = omega (arith, i.if-t-first.false, i.first_due-first.ensures, s.requires.proper_task.jitter) in
-    (ap (λ (jobs : ℕ). s.args.task.length.0 * (1 + jobs)) (periods) ∙ sym (fixed_from (times_of s.args.task) s.args.t from), small)
+    let task = c.args.task in
+    let late : task.deadline.0 ≤ c.args.t + task.jitter.0 = omega (arith, c.if-t-first.false, c.first_due-first.ensures, c.requires.proper_task.jitter) in
+    let same : c.args.t - c.first_due-first.result ≡ c.args.t + task.jitter.0 - task.deadline.0 =
+    omega (arith, c.if-t-first.false, c.first_due-first.ensures, c.requires.proper_task.jitter) in (
+      ap (λ (jobs : ℕ). task.length.0 * (1 + jobs)) (c.whole_periods-jobs.ensures ∙ ap (λ (time : ℕ). time / task.period.0) same)
+          ∙ sym (fixed_from (times_of task) c.args.t late),
+      work_few (goal.at.returns c).After-whole_periods-jobs,
+    )

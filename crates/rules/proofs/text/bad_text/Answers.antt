@@ -1,26 +1,24 @@
--- `bad_text` meets its contract. The bytes that are left decide as all of them do.
-use Rattle.fields.proofs.Deciding.{told, any_hit, any_miss, any_none}
-use Rattle.rules.specs.Rules.{bad_text}
-use mathlib.Core.Path.{◌∙◌, refl, sym}
-use native.Mathlib.Nat.{add-sub_cancel_left}
+-- `bad_text` meets its contract.
+use borrow.Author.Rules.{rules}
+use borrow.Author.Tests.{tests}
+use mathlib.Core.Path.{◌≡◌, ◌∙◌, ap}
+use mathlib.Core.List.{List}
+use Prim.Native.Nat.{ℕ, ◌+◌, ◌-◌}
+use lib.ListN.{take, drop}
+use Rattle.std.specs.List.{list_any}
 use native.Mathlib.Omega.{arith}
+use Rattle.std.proofs.lemmas.Iterator.{YieldsList-from_slice}
+use Rattle.std.proofs.lemmas.Iterator.Search.{any_from_yields_List}
+use Rattle.fields.proofs.AnyFrom.{any_of_part}
+use Rattle.rules.specs.Rules.{bad_text, bad_byte}
 use Rattle.rules.proofs.text.bad_text.Goals as goal
 
-pub loop-at-init : goal.loop-at-init
-unfolding bad_text
-loop-at-init c =
-    let a = c.args in
-    (omega arith, omega arith, rw (add-sub_cancel_left a.start a.size) refl)
-
-pub returns-then-bad_byte : goal.returns-then-bad_byte
-returns-then-bad_byte c =
-    let l = c.loop-at in
-    sym (l.invariant.2 ∙ any_hit _ _ _ c.loop-at-test.true (told _ _ _ c.bad_byte.ensures c.if-bad_byte.true))
-
-pub loop-at-preserved : goal.loop-at-preserved
-loop-at-preserved c =
-    let l = c.loop-at in
-    (omega arith, l.invariant.1, l.invariant.2 ∙ any_miss _ _ _ c.loop-at-test.true (told _ _ _ c.bad_byte.ensures c.if-bad_byte.false))
-
 pub returns : goal.returns
-returns c = sym (c.loop-at.invariant.2 ∙ any_none _ _ _ c.loop-at-test.false)
+unfolding bad_text
+returns c =
+    let a = c.args in
+    let part : List ℕ = take (a.start + a.size - a.start) (drop a.start a.bytes.now) in
+    let size : a.start + a.size - a.start ≡ a.size = omega arith in
+    any_from_yields_List bad_byte _ _ c.any.result c.any.ensures.ran (YieldsList-from_slice part cc) (λ x b q k. search (rules, tests))
+    ∙ ap (λ (n : ℕ). list_any bad_byte (take n (drop a.start a.bytes.now))) size
+    ∙ any_of_part bad_byte a.bytes.now a.start a.size c.requires

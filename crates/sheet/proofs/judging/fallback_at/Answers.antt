@@ -4,8 +4,8 @@ use borrow.Author.Tests.{eq-eqb, ne_eqb}
 use mathlib.Core.Path.{refl}
 use Rattle.sheet.proofs.judging.fallback_at.Goals as goal
 
-pub returns-then-size-eq-MODE : goal.returns-then-size-eq-MODE
-returns-then-size-eq-MODE c = rw c.word_at.ensures (yes _ _ _ _ (eq-eqb _ _ c.if-size-eq-MODE.true) refl)
+pub returns-then-field-eq-MODE : goal.returns-then-field-eq-MODE
+returns-then-field-eq-MODE c = rw c.word_at.ensures (yes _ _ _ _ (eq-eqb _ _ c.if-field-eq-MODE.true) refl)
 
 pub returns : goal.returns
-returns c = rw c.word_at-2.ensures (no _ _ _ _ (ne_eqb _ _ c.if-size-eq-MODE.false) refl)
+returns c = rw c.word_at-2.ensures (no _ _ _ _ (ne_eqb _ _ c.if-field-eq-MODE.false) refl)

@@ -1,9 +1,6 @@
 -- `with_field` meets its contract: each arm adds what its kind adds.
-use Prim.Native.Nat.{◌≤◌, ◌<◌}
-use Rattle.sheet.proofs.Numbered.{first_kept, RowFits, mode_fits, row_fits, task_fits}
-use Rattle.fields.proofs.Deciding.{Kept}
-use Rattle.sheet.specs.Judging.{head_rules, with_field}
-use Rattle.fields.specs.Limits.{mode_limit, task_limit}
+use Rattle.sheet.proofs.Numbered.{first_kept, mode_fits, row_fits, task_fits}
+use Rattle.sheet.specs.Judging.{with_field}
 use Rattle.sheet.specs.Outline.{head_of, sheet_from}
 use Rattle.sheet.specs.Values.{with_mode, with_row, with_task}
 use mathlib.Core.List.{[]}
@@ -12,46 +9,22 @@ use native.Mathlib.Omega.{arith}
 use Rattle.sheet.proofs.judging.with_field.Goals as goal
 
 pub mode_at-requires : goal.mode_at-requires
-mode_at-requires c =
-    let a = c.args in
-    let kept : Kept (head_rules a.bytes.now a.head.tally a.kind a.start a.size) = first_kept _ _ _ _ _ c.requires.size_value in
-    let a = c.args in
-    let mode : (4 ≤ a.size) × (a.head.tally.modes < mode_limit) = mode_fits _ _ _ _ _ c.in-ModeField.is (kept) in omega (arith, mode)
+mode_at-requires c = omega (arith, mode_fits _ _ _ _ _ c.in-ModeField.is (first_kept _ _ _ _ _ c.requires.rules_kept))
 
 pub with_mode-requires : goal.with_mode-requires
-with_mode-requires c =
-    let a = c.args in
-    let kept : Kept (head_rules a.bytes.now a.head.tally a.kind a.start a.size) = first_kept _ _ _ _ _ c.requires.size_value in
-    let a = c.args in
-    let mode : (4 ≤ a.size) × (a.head.tally.modes < mode_limit) = mode_fits _ _ _ _ _ c.in-ModeField.is (kept) in (mode).1
+with_mode-requires c = (mode_fits _ _ _ _ _ c.in-ModeField.is (first_kept _ _ _ _ _ c.requires.rules_kept)).1
 
 pub row_at-requires : goal.row_at-requires
-row_at-requires c =
-    let a = c.args in
-    let kept : Kept (head_rules a.bytes.now a.head.tally a.kind a.start a.size) = first_kept _ _ _ _ _ c.requires.size_value in
-    let a = c.args in
-    let row : RowFits a.bytes.now a.head.tally a.start a.size = row_fits _ _ _ _ _ c.in-RowField.is (kept) in omega (arith, row)
+row_at-requires c = omega (arith, row_fits _ _ _ _ _ c.in-RowField.is (first_kept _ _ _ _ _ c.requires.rules_kept))
 
 pub with_row-requires : goal.with_row-requires
-with_row-requires c =
-    let a = c.args in
-    let kept : Kept (head_rules a.bytes.now a.head.tally a.kind a.start a.size) = first_kept _ _ _ _ _ c.requires.size_value in
-    let a = c.args in
-    let row : RowFits a.bytes.now a.head.tally a.start a.size = row_fits _ _ _ _ _ c.in-RowField.is (kept) in (row).2
+with_row-requires c = (row_fits _ _ _ _ _ c.in-RowField.is (first_kept _ _ _ _ _ c.requires.rules_kept)).2
 
 pub task_at-requires : goal.task_at-requires
-task_at-requires c =
-    let a = c.args in
-    let kept : Kept (head_rules a.bytes.now a.head.tally a.kind a.start a.size) = first_kept _ _ _ _ _ c.requires.size_value in
-    let a = c.args in
-    let task : (6 ≤ a.size) × (a.head.tally.tasks < task_limit) = task_fits _ _ _ _ _ c.in-TaskField.is (kept) in omega (arith, task)
+task_at-requires c = omega (arith, task_fits _ _ _ _ _ c.in-TaskField.is (first_kept _ _ _ _ _ c.requires.rules_kept))
 
 pub with_task-requires : goal.with_task-requires
-with_task-requires c =
-    let a = c.args in
-    let kept : Kept (head_rules a.bytes.now a.head.tally a.kind a.start a.size) = first_kept _ _ _ _ _ c.requires.size_value in
-    let a = c.args in
-    let task : (6 ≤ a.size) × (a.head.tally.tasks < task_limit) = task_fits _ _ _ _ _ c.in-TaskField.is (kept) in (task).1
+with_task-requires c = (task_fits _ _ _ _ _ c.in-TaskField.is (first_kept _ _ _ _ _ c.requires.rules_kept)).1
 
 pub returns-in-RefusedTag : goal.returns-in-RefusedTag
 unfolding with_field

@@ -1,9 +1,5 @@
-use Prim.Native.Nat.{◌-◌, ◌≤◌}
 use Rattle.sheet.specs.Outline.{RowsFrom}
 use Rattle.sheet.proofs.rows.rows_at.Given as goal
 
-abbrev pub invariant-loop-filled : goal.invariant-loop-filled
-invariant-loop-filled l = (l.filled ≤ l.count) × RowsFrom l.bytes l.places l.filled l.rows
-
-abbrev pub decreases-loop-filled : goal.decreases-loop-filled
-decreases-loop-filled l = l.count - l.filled
+abbrev pub invariant-loop-number : goal.invariant-loop-number
+invariant-loop-number l = RowsFrom l.bytes l.places l.number l.rows

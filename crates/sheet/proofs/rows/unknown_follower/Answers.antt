@@ -1,31 +1,26 @@
--- `unknown_follower` meets its contract. The rows that are left decide as all of them do.
-use Rattle.fields.proofs.Deciding.{told, any_hit, any_miss, any_none}
-use Rattle.rules.specs.Rules.{unknown_follower}
-use mathlib.Core.Path.{◌∙◌, refl, sym}
-use native.Mathlib.Nat.{sub-zero}
+-- `unknown_follower` meets its contract: `any` looks for a row that names one which does not exist, and the array has the rows at those places.
+use borrow.Author.Rules.{rules}
+use borrow.Author.Tests.{tests}
+use lib.ListN.{get_or}
+use Prim.Native.Nat.{ℕ, ◌+◌}
+use mathlib.Core.Bool.{Bool}
+use mathlib.Core.Path.{◌∙◌, refl, sym, ap}
 use native.Mathlib.Omega.{arith}
+use Rattle.std.proofs.lemmas.Iterator.{YieldsList-from_range}
+use Rattle.std.proofs.lemmas.Iterator.Search.{any_from_yields_List}
+use Rattle.fields.proofs.AnyFrom.{any_of_range, any_alike}
+use Rattle.fields.specs.Reading.{row_at}
+use Rattle.fields.specs.Values.{no_row}
+use Rattle.fields.specs.declared.values.Row.{Row}
+use Rattle.rules.specs.Rules.{unknown_in, unknown_follower}
 use Rattle.sheet.proofs.rows.unknown_follower.Goals as goal
 
-pub loop-number-init : goal.loop-number-init
-unfolding unknown_follower
-loop-number-init c rows from = rw sub-zero refl
-
-pub row_at-row-requires : goal.row_at-row-requires
-row_at-row-requires c = c.requires.1 _ (omega arith)
-
-pub returns-then-unknown_in : goal.returns-then-unknown_in
-returns-then-unknown_in c rows from =
-    let l = c.loop-number in
-    let test = c.loop-number-test in
-    let row = from.each l.number test.true ∙ sym c.row_at-row.ensures in
-    sym (l.invariant rows from ∙ any_hit _ _ _ test.true (rw row (told _ _ _ c.unknown_in.ensures c.if-unknown_in.true)))
-
-pub loop-number-preserved : goal.loop-number-preserved
-loop-number-preserved c rows from =
-    let l = c.loop-number in
-    let test = c.loop-number-test in
-    let row = from.each l.number test.true ∙ sym c.row_at-row.ensures in
-    l.invariant rows from ∙ any_miss _ _ _ test.true (rw row (told _ _ _ c.unknown_in.ensures c.if-unknown_in.false))
-
 pub returns : goal.returns
-returns c rows from = sym (c.loop-number.invariant rows from ∙ any_none _ _ _ c.loop-number-test.false)
+unfolding unknown_follower
+returns c rows from =
+    let a = c.args in
+    let unknown : Row → Bool = λ row. unknown_in row.followers a.count in
+    let there : ℕ → Bool = λ k. unknown (row_at a.bytes.now (get_or a.places.now k 0)) in
+    any_from_yields_List there _ _ c.any.result c.any.ensures.ran (YieldsList-from_range 0 a.count a.count refl (omega arith)) (λ x b q k. search (rules, tests))
+    ∙ any_of_range there 0 a.count
+    ∙ any_alike there (λ k. unknown (get_or rows k no_row)) 0 0 a.count (λ k h. ap unknown (sym (from.each (0 + k) (omega arith))))

@@ -1,33 +1,20 @@
 -- `least_cell` meets its contract: one job is enough, or the rest is a follower's to do.
-use Prim.Native.Nat.{◌+◌, ◌-◌, ◌*◌, ◌≤◌}
-use Rattle.tables.proofs.Amounts.{soonest_via_is}
-use Rattle.tables.proofs.Followers.{row_followed}
-use Rattle.sheet.specs.Meaning.{gap_of}
-use Rattle.meaning.proofs.ByAmount.{least_one, least_done}
-use Rattle.meaning.specs.Computed.{cell_for}
-use mathlib.Core.Path.{◌≡◌}
-use native.Mathlib.Nat.{mul-le-mul}
+use Prim.Native.Nat.{◌-◌}
 use native.Mathlib.Omega.{arith}
+use Rattle.tables.specs.Seen.{work_in}
+use Rattle.tables.proofs.Lines.{room_for_fewer}
+use Rattle.tables.proofs.Seen.{seen_work, seen_one, seen_rest}
 use Rattle.tables.proofs.amount.least_cell.Goals as goal
 
 pub returns-then-line-back : goal.returns-then-line-back
-returns-then-line-back c =
-    let s = c.before.before.before.before in
-    least_one _ _ _ _ _ _ (omega (arith, c.if-line-back.true)) s.requires.proper_row.deadline.1
+returns-then-line-back c = seen_one c.args.rows.now c.args.number c.requires.counted _ c.row-row.ensures _ _ c.if-line-back.true
 
 pub soonest_via-requires : goal.soonest_via-requires
 soonest_via-requires c =
-    let s = c.before.before.before in
-    let fewer : s.args.n * (s.args.line - s.args.work + 1) ≤ s.args.n * s.args.line = mul-le-mul (omega arith) (omega (arith, s.requires.le_work, c.if-line-back.false)) in
-    record { followed = row_followed _ _ _ s.requires.proper_row; line_in_bounds = omega (arith, s.requires.line_in_bounds) }
+    let fewer = room_for_fewer c.args.rows.now.count c.args.line _ _ (omega (arith, seen_work c.args.rows.now c.args.number c.requires.counted, c.if-line-back.false)) c.requires.room in
+    record { room = rw c.new-followers.ensures.count fewer }
 
 pub returns : goal.returns
 returns c =
-    let s = c.before.before.before.before in
-    let a = s.args in
-    let bytes = a.bytes.now in
-    let cells = a.cells.now in
-    let left = a.line + 1 - a.work in
-    let same : a.line - a.work ≡ left - 1 = omega arith in
-    least_done a.n a.work a.row.deadline.0 (gap_of bytes a.row) (cell_for a.n cells) (a.line + 1) _ (omega (arith, c.if-line-back.false))
-    (rw (c.soonest_via.ensures, same) (soonest_via_is bytes a.n a.row s.requires.proper_row (omega arith) cells left))
+    seen_rest c.args.rows.now c.args.number c.requires.counted c.row-row.result c.row-row.ensures _ _ (omega (arith, c.row-row.type_inv)) (c.args.line - work_in c.args.rows.now c.args.number) _ (omega (arith, c.if-line-back.false))
+    (rw (c.new-followers.ensures.bytes, c.new-followers.ensures.count, c.new-followers.ensures.rest, c.new-followers.ensures.place) at c.soonest_via.ensures)

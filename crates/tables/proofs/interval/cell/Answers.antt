@@ -2,28 +2,22 @@
 use Prim.Native.Nat.{◌+◌}
 use mathlib.Core.Path.{◌≡◌}
 use native.Mathlib.Omega.{arith}
-use Rattle.meaning.proofs.ByInterval.{step_late, step_done}
 use Rattle.tables.specs.Adding.{cell_of}
-use Rattle.tables.proofs.Adding.{most_added_is}
-use Rattle.tables.proofs.Followers.{row_followed}
+use Rattle.tables.specs.Seen.{row_in, work_in}
+use Rattle.tables.proofs.Seen.{seen_late, seen_sum}
 use Rattle.tables.proofs.interval.cell.Goals as goal
 
 pub returns-then-s-row : goal.returns-then-s-row
-returns-then-s-row c = step_late _ _ _ _ _ _ (omega (arith, c.if-s-row.true))
+returns-then-s-row c = seen_late c.args.rows.now c.args.number c.requires.counted _ c.row-row.ensures _ _ (omega (arith, c.if-s-row.true))
 
-pub most_added-requires : goal.most_added-requires
-most_added-requires c = let b = c.before.before.before.before in record { followed = row_followed _ _ _ b.requires.proper_row; s_in_bounds = b.requires.s_in_bounds }
+-- the job length and the most that a follower adds are the cell
+sum : (c : goal.After-most_added)
+    → work_in c.args.rows.now c.args.number + c.most_added.result ≡ cell_of c.args.rows.now.bytes.now c.args.cells.now (row_in c.args.rows.now c.args.number) (work_in c.args.rows.now c.args.number) c.args.rows.now.count c.args.s
+sum c = seen_sum c.args.rows.now c.args.number c.requires.counted c.row-row.result c.row-row.ensures _ _ (omega (arith, c.row-row.type_inv))
+    _ (rw (c.new-followers.ensures.bytes, c.new-followers.ensures.count, c.new-followers.ensures.rest, c.new-followers.ensures.place) at c.most_added.ensures) (omega (arith, c.if-s-row.false))
 
 pub overflow_add-result : goal.overflow_add-result
-overflow_add-result c =
-    let a = c.args in
-    let sum : a.work + c.most_added.result ≡ cell_of a.bytes.now a.cells.now a.row a.work a.n a.s =
-    let b = c.before.before.before.before.before in
-    step_done _ _ _ _ _ _ _ c.if-s-row.false (rw c.most_added.ensures (most_added_is _ _ _ b.requires.proper_row (omega (arith, c.struct_known-1.given)) _ _)) in omega (arith, sum, c.requires.s_bound)
+overflow_add-result c = omega (arith, sum c, c.requires.fits)
 
 pub returns : goal.returns
-returns c =
-    let a = c.args in
-    let sum : a.work + c.most_added.result ≡ cell_of a.bytes.now a.cells.now a.row a.work a.n a.s =
-    let b = c.before.before.before.before.before in
-    step_done _ _ _ _ _ _ _ c.if-s-row.false (rw c.most_added.ensures (most_added_is _ _ _ b.requires.proper_row (omega (arith, c.struct_known-1.given)) _ _)) in sum
+returns c = sum c

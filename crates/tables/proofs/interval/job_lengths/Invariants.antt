@@ -1,4 +1,4 @@
-use Prim.Native.Nat.{ℕ, ◌-◌, ◌≤◌}
+use Prim.Native.Nat.{ℕ}
 use lib.ListN.{get_or, take}
 use mathlib.Core.List.{List}
 use Rattle.fields.specs.Limits.{row_limit}
@@ -12,8 +12,5 @@ use Rattle.tables.proofs.interval.job_lengths.Given as goal
 abbrev pub length_at : List ℕ → List ℕ → List Mode → ℕ → ℕ → ℕ
 length_at bytes places modes count k = (job_length (take count modes) (rpm_at bytes (get_or places k 0))).0
 
-abbrev pub invariant-loop-k : goal.invariant-loop-k
-invariant-loop-k l = (l.k ≤ l.n) × Stored (length_at l.bytes l.places l.modes l.tally.modes) row_limit l.lengths l.k
-
-abbrev pub decreases-loop-k : goal.decreases-loop-k
-decreases-loop-k l = l.n - l.k
+abbrev pub invariant-loop-number : goal.invariant-loop-number
+invariant-loop-number l = Stored (length_at l.bytes l.places l.modes l.tally.modes) row_limit l.lengths l.number

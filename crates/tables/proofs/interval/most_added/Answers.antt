@@ -1,63 +1,20 @@
--- `most_added` meets its contract. What is left of the set, the place of the next gap and the most so far go together.
-use Prim.Native.Nat.{ℕ, ◌+◌, ◌-◌, ◌<◌}
-use lib.Bits.{and_le_r}
-use lib.Count.{count_trailing_zeros}
-use lib.ListN.{length}
-use mathlib.Core.Path.{◌≡◌, ap, ◌∙◌}
+-- `most_added` meets its contract. What is left of the walk and the most so far go together.
 use native.Mathlib.Omega.{arith}
-use Rattle.tables.specs.Followers.{gap_to}
 use Rattle.tables.specs.Adding.{most_added}
-use Rattle.tables.proofs.Followers.{passing_start, passing_done, passing_row, passing_gap, passing_inside, passing_next}
+use Rattle.tables.proofs.Followers.{walked_none, walked_all, walked_row, walked_gap, walked_more}
 use Rattle.tables.proofs.interval.most_added.Goals as goal
 
-pub loop-rest-init : goal.loop-rest-init
-loop-rest-init c = passing_start _ _ _ _
+pub loop-row-init : goal.loop-row-init
+loop-row-init c = walked_none _ _ _ (omega (arith, c.ranges.followers))
 
-pub overflow_cast-row : goal.overflow_cast-row
-overflow_cast-row c =
-    let row_in : count_trailing_zeros 64 c.loop-rest.rest < c.args.n =
-    let b = c.before.before.before.before in
-    b.requires.followed.exist _ (passing_row _ _ _ _ _ _ _ b.ranges.followers.fits c.loop-rest.invariant c.loop-rest-test.true) in omega (arith, row_in, c.ranges.n)
+pub added-requires-clause-row_lt_n : goal.added-requires-clause-row_lt_n
+added-requires-clause-row_lt_n c = walked_row c.loop-row.invariant c.in-Some.ensures
 
-pub gap_at-gap-requires : goal.gap_at-gap-requires
-gap_at-gap-requires c =
-    let gap-in : c.loop-rest.place + 1 < length c.args.bytes.now =
-    let b = c.before.before.before.before in
-    passing_inside _ _ _ _ _ _ _ b.ranges.followers.fits c.loop-rest.invariant c.loop-rest-test.true _ _ b.requires.followed in gap-in
-
-pub added-requires : goal.added-requires
-added-requires c =
-    let row_in : count_trailing_zeros 64 c.loop-rest.rest < c.args.n =
-    let b = c.before.before.before.before in
-    b.requires.followed.exist _ (passing_row _ _ _ _ _ _ _ b.ranges.followers.fits c.loop-rest.invariant c.loop-rest-test.true) in record { row_lt_n = row_in; s_in_bounds = c.requires.s_in_bounds }
-
-pub overflow_sub-rest : goal.overflow_sub-rest
-overflow_sub-rest c = omega (arith, c.loop-rest-test.true)
-
-pub overflow_add-place : goal.overflow_add-place
-overflow_add-place c =
-    let gap-in : c.loop-rest.place + 1 < length c.args.bytes.now =
-    let b = c.before.before.before.before in
-    passing_inside _ _ _ _ _ _ _ b.ranges.followers.fits c.loop-rest.invariant c.loop-rest-test.true _ _ b.requires.followed in omega (arith, gap-in)
-
-pub loop-rest-smaller : goal.loop-rest-smaller
-loop-rest-smaller c =
-    let rest : ℕ = c.loop-rest.rest in
-    omega (arith, c.loop-rest-test.true, and_le_r rest (rest - 1))
-
-pub loop-rest-preserved : goal.loop-rest-preserved
-loop-rest-preserved c =
-    let i = c.before.before.before in
-    let b = i.before.before.before.before in
-    let a = b.args in
-    let l = i.loop-rest in
-    let j = count_trailing_zeros 64 l.rest in
-    let gap : c.gap_at-gap.result.0 ≡ gap_to a.bytes.now a.followers a.gaps j =
-    ap (λ r. r.0) c.gap_at-gap.ensures
-    ∙ passing_gap _ _ _ _ _ _ _ b.ranges.followers.fits l.invariant i.loop-rest-test.true a.bytes.now in
-    passing_next _ _ _ _ _ _ _ b.ranges.followers.fits l.invariant i.loop-rest-test.true _ _ (omega arith)
-    (rw (c.larger-most.ensures, c.added.ensures, gap))
+pub loop-row-preserved : goal.loop-row-preserved
+loop-row-preserved c =
+    let gap = walked_gap c.loop-row.invariant c.in-Some.ensures in
+    walked_more c.loop-row.invariant c.in-Some.ensures (rw (c.max-most.ensures, c.added.ensures, gap))
 
 pub returns : goal.returns
 unfolding most_added
-returns c = passing_done _ _ _ _ _ _ _ c.loop-rest.invariant c.loop-rest-test.false
+returns c = walked_all c.loop-row.invariant c.in_default.ensures

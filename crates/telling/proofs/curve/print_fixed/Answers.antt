@@ -2,11 +2,11 @@
 use native.Mathlib.Omega.{arith}
 use Rattle.overruns.proofs.ProperTasks.{sheet_tasks}
 use Rattle.sheet.proofs.Accepted.{accepted_proper}
+use Rattle.sheet.proofs.Judgements.{judged_sheet}
 use Rattle.telling.proofs.curve.print_fixed.Goals as goal
 
-pub print_fixed_rises-requires-clause-proper_tasks :
-    goal.print_fixed_rises-requires-clause-proper_tasks
-print_fixed_rises-requires-clause-proper_tasks g c =
+pub new-tasks-requires : goal.new-tasks-requires
+new-tasks-requires g c =
     let bytes = c.args.bytes.now in
-    sheet_tasks bytes c.judge-judged.result.sheet
-    (rw c.judge-judged.ensures (accepted_proper bytes (λ i. omega (arith, c.type_inv.bytes i)) c.requires.bytes_value))
+    let found = judged_sheet bytes c.in-Ok.sheet c.in-Ok.ensures in
+    rw found.1 (sheet_tasks bytes _ (accepted_proper bytes (λ i. omega (arith, c.type_inv.bytes i)) found.0))

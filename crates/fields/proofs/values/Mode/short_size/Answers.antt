@@ -3,9 +3,9 @@ use Rattle.fields.proofs.Deciding.{judging}
 use Rattle.fields.specs.Values.{short_size}
 use Rattle.fields.proofs.values.Mode.short_size.Goals as goal
 
-pub returns-then-same : goal.returns-then-same
+pub returns-then-eq : goal.returns-then-eq
 unfolding short_size
-returns-then-same c = search judging
+returns-then-eq c = search judging
 
 pub returns : goal.returns
 unfolding short_size

@@ -3,9 +3,9 @@ use Rattle.fields.proofs.Deciding.{judging}
 use Rattle.fields.specs.Values.{short_task_size}
 use Rattle.fields.proofs.values.Task.short_size.Goals as goal
 
-pub returns-then-is_zero : goal.returns-then-is_zero
+pub returns-then-eq : goal.returns-then-eq
 unfolding short_task_size
-returns-then-is_zero c = search judging
+returns-then-eq c = search judging
 
 pub returns : goal.returns
 unfolding short_task_size

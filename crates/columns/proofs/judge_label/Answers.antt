@@ -1,0 +1,15 @@
+-- `judge_label` meets its contract: the first rules, then that of the label's bytes.
+use Rattle.std.proofs.lemmas.Result.{err_from_is_err_and}
+use Rattle.fields.proofs.Deciding.{pass, stop}
+use Rattle.written.specs.Judging.{entry_rules}
+use Rattle.columns.proofs.judge_label.Goals as goal
+
+pub returns-in_err-judge_field : goal.returns-in_err-judge_field
+unfolding entry_rules
+returns-in_err-judge_field c =
+    let told = err_from_is_err_and c.from_residual.result c.from_residual.ensures.1 in
+    rw (told.1, told.2) (stop _ _ _ c.in_err-judge_field.ensures)
+
+pub returns : goal.returns
+unfolding entry_rules
+returns c = pass _ _ _ c.in_ok-judge_field.ensures c.judge_text.ensures

@@ -1,7 +1,0 @@
--- `task_at` meets its contract: its words are those of the definition.
-use mathlib.Core.Path.{refl}
-use Rattle.sheet.proofs.judging.task_at.Goals as goal
-
-pub returns : goal.returns
-returns c =
-    rw (c.word_at.ensures, c.word_at-2.ensures, c.word_at-3.ensures, c.jitter_at-jitter.ensures) refl

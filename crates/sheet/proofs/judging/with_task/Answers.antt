@@ -1,6 +1,0 @@
--- `with_task` meets its contract: the task is stored, and the tally counts it.
-use mathlib.Core.Path.{refl}
-use Rattle.sheet.proofs.judging.with_task.Goals as goal
-
-pub returns : goal.returns
-returns c = rw c.count_task-tally.ensures refl
