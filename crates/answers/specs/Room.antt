@@ -21,6 +21,10 @@ lines_for Chart t = t + 1
 lines_for At t = t + 1
 lines_for Shortest b = b
 
+-- the few cells, for which an ordinary stack is enough
+abbrev pub few_cells : ℕ
+few_cells = 1000000
+
 -- a number of cells is enough for a question; where its number is out of range, no cells are asked for
 abbrev pub HasRoom : List ℕ → Question → ℕ → ℕ → Type 0
 HasRoom bytes question number cells = out_of_range question number ≡ false → room_for bytes (lines_for question number) ≤ cells

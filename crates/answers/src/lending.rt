@@ -1,7 +1,7 @@
 // Which cells a question is lent, few where they are enough and else many, and what answers it.
 ghost use Rattle.std.specs.Prelude.{◌≡◌, false, ◌+◌, ◌≤◌, length};
 ghost use Rattle.meaning.specs.Demand.{longest_time};
-ghost use Rattle.answers.specs.Room.{lines_for, HasRoom};
+ghost use Rattle.answers.specs.Room.{few_cells, lines_for, HasRoom};
 
 use crate::{AREA, FEW, MANY};
 use fields::values::Sheet;
@@ -12,7 +12,7 @@ use words::Question;
 
 // Whether few cells are too few. A number that is out of range takes none.
 pub(crate) fn needs_many(bytes: &[u8], question: Question, number: u64) -> bool
-    ensures { result ≡ false → HasRoom bytes.now question number FEW }
+    ensures { result ≡ false → HasRoom bytes.now question number few_cells }
 {
     if (Sheet::TICKS.0 as u64) + 1 < number {
         return false;

@@ -1,3 +1,4 @@
 pub mod Lanes
 pub mod Walking
 pub mod Raising
+pub mod Leaving

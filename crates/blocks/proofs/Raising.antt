@@ -1,19 +1,15 @@
 -- What a follower adds in each line of a block by interval, and the cell that comes of the most of it.
-use mathlib.Core.Path.{◌≡◌, sym, ap, ◌∙◌}
-use mathlib.Core.Logic.{⊎_elim}
+use mathlib.Core.Bool.{cond}
+use mathlib.Core.Path.{◌≡◌, ap, ◌∙◌}
 use mathlib.Core.List.{List}
-use Prim.Native.Nat.{ℕ, ◌+◌, ◌-◌, ◌*◌, ◌^◌, ◌≤◌, ◌<◌, max}
+use Prim.Native.Nat.{ℕ, ◌+◌, ◌-◌, ◌*◌, ◌≤◌, ◌<◌, max}
 use native.Mathlib.Omega.{arith}
+use lib.Dec.{leb}
 use lib.ListN.{get_or}
 use borrow.Author.Tests.{le-leb, lt-leb}
-use Rattle.meaning.specs.Computed.{cell_at}
-use Rattle.meaning.proofs.Tests.{le_or}
-use Rattle.fields.specs.declared.values.Row.{Row}
-use Rattle.tables.specs.Adding.{added_at, most_added, cell_of}
-use Rattle.tables.specs.Seen.{row_in, work_in}
-use Rattle.tables.specs.declared.rows.Rows.{Rows}
+use Rattle.meaning.specs.Computed.{cell_at, max_below, via_at, step_at}
+use Rattle.tables.specs.Adding.{added_at}
 use Rattle.tables.proofs.Adding.{added_late, added_cell}
-use Rattle.tables.proofs.Seen.{seen_late, seen_sum}
 use Rattle.blocks.specs.Blocks.{block_size, due_work}
 use Rattle.blocks.proofs.Lanes.{lane_cell}
 
@@ -39,12 +35,7 @@ module _ (deadline work s most : ℕ) where
   unfolding due_work
   due_sum h = rw (le-leb deadline s h)
 
--- with the most that a follower adds it is the cell
-pub due_is : (rows : Rows) (number : ℕ) → number < rows.count → (row : Row) → row ≡ row_in rows number → row.followers < 2 ^ 64 → (cells : List ℕ) (s most : ℕ)
-    → most ≡ most_added rows.bytes.now cells row.followers row.gaps rows.count s
-    → due_work row.deadline.0 (work_in rows number) s most ≡ cell_of rows.bytes.now cells (row_in rows number) (work_in rows number) rows.count s
-due_is rows number counted row is fits cells s most e =
-    ⊎_elim
-    (λ l. sym (due_sum _ _ s most l.0) ∙ seen_sum rows number counted row is cells s fits most e l.0)
-    (λ l. sym (due_late _ (work_in rows number) s most l.0) ∙ seen_late rows number counted row is cells s l.0)
-    (le_or row.deadline.0 s)
+  -- with the most that a follower adds it is the cell
+  pub due_is : (n : ℕ) (gap : ℕ → ℕ) (table : ℕ → ℕ → ℕ) → most ≡ max_below n (via_at gap table s) → due_work deadline work s most ≡ step_at n work deadline gap table s
+  unfolding due_work step_at
+  due_is n gap table e = ap (λ (x : ℕ). cond (leb deadline s) (work + x) 0) e

@@ -4,44 +4,58 @@ ghost use Rattle.meaning.specs.Cells.{amount_of};
 ghost use Rattle.meaning.specs.Computed.{cell_for, least_at, time_or_none};
 ghost use Rattle.meaning.specs.Demand.{longest_time};
 ghost use Rattle.sheet.specs.Meaning.{gap_of};
+ghost use Rattle.sheet.specs.Proper.{ProperRow};
 ghost use Rattle.tables.specs.Amounts.{soonest_via};
-ghost use Rattle.tables.specs.Seen.{row_in, work_in};
 ghost use Rattle.blocks.specs.Blocks.{block_size, EachLine};
 
 use crate::BLOCK;
 use fields::units::Ticks;
+use fields::values::Row;
 use tables::amount::{NO_TIME, least_cell, time_via};
-use tables::rows::Rows;
 use tables::walk::Followers;
 
-// The cells of the row of a number in the block of lines from a line on, from the lines before the block. A job is no shorter than a block, so what it leaves of each line's amount has its cells before the block.
-pub fn block_times(rows: &Rows, cells: &[u32], number: usize, line: usize) -> [u32; BLOCK]
-    requires counted { number < rows.now.count }
-    requires long_enough { block_size ≤ work_in rows.now number }
-    requires room { rows.now.count * (line + block_size) ≤ length cells.now }
+// The cells of a row with a job length in the block of lines from a line on, from the lines before the block. A job is no shorter than a block, so what it leaves of each line's amount has its cells before the block.
+pub fn block_times(
+    bytes: &[u8],
+    cells: &[u32],
+    row: Row,
+    work: u32,
+    n: usize,
+    line: usize,
+) -> [u32; BLOCK]
+    requires proper_row { ProperRow bytes.now n row }
+    requires long_enough { block_size ≤ work }
+    requires room { n * (line + block_size) ≤ length cells.now }
     requires in_range { line + block_size ≤ longest_time + 1 }
-    ensures { EachLine (λ i. least_at rows.now.count (work_in rows.now number) (row_in rows.now number).deadline.0 (gap_of rows.now.bytes.now (row_in rows.now number)) (cell_for rows.now.count cells.now) (amount_of (line + i))) result }
+    ensures { EachLine (λ i. least_at n work row.deadline.0 (gap_of bytes.now row) (cell_for n cells.now) (amount_of (line + i))) result }
 {
-    let back = rows.lengths[number] as usize;
+    let back = work as usize;
     if line < back {
-        return first_times(rows, cells, number, line);
+        return first_times(bytes, cells, row, work, n, line);
     }
-    let row = rows.row(number);
-    let followers = Followers::new(rows.bytes, rows.count, row);
+    let followers = Followers::new(bytes, n, row);
     soonest_in_block(followers, cells, line - back)
 }
 
 // The same where one job may be enough for some of the lines.
-fn first_times(rows: &Rows, cells: &[u32], number: usize, line: usize) -> [u32; BLOCK]
-    requires counted { number < rows.now.count }
-    requires room { rows.now.count * (line + block_size) ≤ length cells.now }
+fn first_times(
+    bytes: &[u8],
+    cells: &[u32],
+    row: Row,
+    work: u32,
+    n: usize,
+    line: usize,
+) -> [u32; BLOCK]
+    requires proper_row { ProperRow bytes.now n row }
+    requires some_work { 1 ≤ work }
+    requires room { n * (line + block_size) ≤ length cells.now }
     requires in_range { line + block_size ≤ longest_time + 1 }
-    ensures { EachLine (λ i. least_at rows.now.count (work_in rows.now number) (row_in rows.now number).deadline.0 (gap_of rows.now.bytes.now (row_in rows.now number)) (cell_for rows.now.count cells.now) (amount_of (line + i))) result }
+    ensures { EachLine (λ i. least_at n work row.deadline.0 (gap_of bytes.now row) (cell_for n cells.now) (amount_of (line + i))) result }
 {
     let mut column = [0u32; BLOCK];
     // A loop, since `array::from_fn` asks its closure for facts that the check does not find here.
     for i in 0..BLOCK {
-        column[i] = least_cell(rows, cells, number, line + i);
+        column[i] = least_cell(bytes, cells, row, work, n, line + i);
     }
     column
 }

@@ -1,29 +1,34 @@
 // Blocks of the table by interval. Its lines are the intervals from 0 on.
 ghost use Rattle.std.specs.Prelude.{◌≡◌, ℕ, ◌+◌, ◌*◌, ◌^◌, ◌≤◌, ◌<◌, max, length, get_or};
 ghost use Rattle.meaning.specs.Demand.{longest_time};
+ghost use Rattle.sheet.specs.Proper.{ProperRow};
 ghost use Rattle.tables.specs.Adding.{added_at, most_added, cell_of};
-ghost use Rattle.tables.specs.Seen.{row_in, work_in};
 ghost use Rattle.blocks.specs.Blocks.{block_size, EachLine, due_work};
 
 use crate::BLOCK;
 use fields::units::Ticks;
+use fields::values::Row;
 use std::array;
 use tables::interval::added;
-use tables::rows::Rows;
 use tables::walk::Followers;
 
-// The cells of the row of a number in the block of lines from s on, from the lines before the block.
-pub fn block_cells(rows: &Rows, cells: &[u32], number: usize, s: usize) -> [u32; BLOCK]
-    requires counted { number < rows.now.count }
-    requires room { rows.now.count * (s + block_size) ≤ length cells.now }
+// The cells of a row with a job length in the block of lines from s on, from the lines before the block.
+pub fn block_cells(
+    bytes: &[u8],
+    cells: &[u32],
+    row: Row,
+    work: u32,
+    n: usize,
+    s: usize,
+) -> [u32; BLOCK]
+    requires proper_row { ProperRow bytes.now n row }
+    requires room { n * (s + block_size) ≤ length cells.now }
     requires in_range { s + block_size ≤ longest_time + 1 }
-    requires fits { (i : ℕ) → i < block_size → cell_of rows.now.bytes.now cells.now (row_in rows.now number) (work_in rows.now number) rows.now.count (s + i) < 2 ^ 32 }
-    ensures { EachLine (λ i. cell_of rows.now.bytes.now cells.now (row_in rows.now number) (work_in rows.now number) rows.now.count (s + i)) result }
+    requires fits { (i : ℕ) → i < block_size → cell_of bytes.now cells.now row work n (s + i) < 2 ^ 32 }
+    ensures { EachLine (λ i. cell_of bytes.now cells.now row work n (s + i)) result }
 {
-    let row = rows.row(number);
-    let work = rows.lengths[number];
     let deadline = row.deadline.0 as usize;
-    let followers = Followers::new(rows.bytes, rows.count, row);
+    let followers = Followers::new(bytes, n, row);
     let most = most_in_block(followers, cells, s);
     let mut column = [0u32; BLOCK];
     // A loop, since `array::from_fn` asks its closure for facts that the check does not find here.

@@ -21,12 +21,12 @@ pub(crate) fn look_over(tasks: &FixedTasks, n: usize, cells: &[u32], horizon: us
     requires room { n * (horizon + 1) ≤ length cells.now }
     ensures { IsTightest n tasks.now.tasks tasks.now.count cells.now horizon result }
 {
-    let mut dues = Dues::new(tasks);
+    let mut dues = Dues::new(&tasks.tasks);
     let mut fixed: u64 = 0;
     let mut least = horizon as u64 + 1;
     let mut at: usize = 0;
     for t in 1..=horizon {
-        fixed += dues.advance(tasks, t);
+        fixed += dues.advance(&tasks.tasks, tasks.count, t);
         let work = demand_of(cells, n, t) as u64 + fixed;
         if (t as u64) < work {
             return Tightest::Overrun { interval: t, fixed };

@@ -1,5 +1,6 @@
--- The numbers that refusals are told by, and what a refused call answers.
-use Rattle.std.specs.Prelude.{ℕ, Result, Err}
+-- The numbers and words that refusals are told by, and what a refused call answers.
+use Rattle.std.specs.Prelude.{ℕ, List, ◌++◌, codes, Result, Err}
+use Rattle.std.specs.Fmt.{decimal}
 use Rattle.fields.specs.declared.refusal.Reason.{Reason}
 use Rattle.fields.specs.declared.refusal.Reason.TheVariants.{CutOff, UnknownTag, OutOfOrder, BehindTheEnd, WrongLength, TooMany, BadValue, NotRising, UnknownFollower, ShortGap, OutOfRange, FewCells, ShortArea, NeverReached, ShortOutput}
 use Rattle.fields.specs.declared.refusal.Refusal.{Refusal}
@@ -25,3 +26,7 @@ rule_number ShortOutput = 15
 -- refused for a reason, at a place
 abbrev pub refused : {A : Type 0} → Reason → ℕ → Result A Refusal
 refused reason place = Err (record { reason = reason; place = place })
+
+-- what is printed of a refusal: its number, and its place
+abbrev pub refusal_words : Refusal → List ℕ
+refusal_words refusal = codes "refused " ++ decimal (rule_number refusal.reason) ++ codes " at " ++ decimal refusal.place

@@ -47,6 +47,11 @@ pub struct Refusal {
 
 // What the programs print of a refusal.
 impl fmt::Display for Refusal {
+    ghost use Rattle.std.specs.Prelude.{Some};
+    ghost use Rattle.fields.specs.Refusals.{refusal_words};
+
+    ghost output = { λ refusal. Some (refusal_words refusal) };
+
     fn fmt<W: fmt::Write>(&self, f: &mut fmt::Formatter<W>) -> fmt::Result {
         write!(f, "refused {} at {}", self.number(), self.place)
     }

@@ -53,11 +53,13 @@ impl Fillable for ByInterval {
     }
 
     fn cell(rows: &Rows, cells: &[u32], k: usize, line: usize) -> u32 {
-        cell(rows, cells, k, line)
+        let row = rows.row(k);
+        cell(rows.bytes, cells, row, rows.lengths[k], rows.count, line)
     }
 
     fn block(rows: &Rows, cells: &[u32], k: usize, line: usize) -> [u32; BLOCK] {
-        block_cells(rows, cells, k, line)
+        let row = rows.row(k);
+        block_cells(rows.bytes, cells, row, rows.lengths[k], rows.count, line)
     }
 }
 
@@ -70,11 +72,13 @@ impl Fillable for ByAmount {
     }
 
     fn cell(rows: &Rows, cells: &[u32], k: usize, line: usize) -> u32 {
-        least_cell(rows, cells, k, line)
+        let row = rows.row(k);
+        least_cell(rows.bytes, cells, row, rows.lengths[k], rows.count, line)
     }
 
     fn block(rows: &Rows, cells: &[u32], k: usize, line: usize) -> [u32; BLOCK] {
-        block_times(rows, cells, k, line)
+        let row = rows.row(k);
+        block_times(rows.bytes, cells, row, rows.lengths[k], rows.count, line)
     }
 }
 

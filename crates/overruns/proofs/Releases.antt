@@ -8,7 +8,7 @@ use native.Mathlib.Numerals.{add-one}
 use native.Mathlib.Omega.{arith}
 use borrow.Author.Tests.{eq-eqb, ne_eqb, eqb-true, eqb-false}
 use lib.Dec.{eqb}
-use lib.ListN.{length, get_or, set, take}
+use lib.ListN.{length, get_or, set, take, length-set}
 use lib.Seq.{get_or-set_same, get_or-set_other}
 use Rattle.meaning.specs.Demand.{longest_time}
 use Rattle.meaning.specs.Fixed as fixed
@@ -16,6 +16,7 @@ use Rattle.meaning.specs.Fixed.{fixed_of, fixed_sum}
 use Rattle.meaning.proofs.FixedTasks.{fixed_before, fixed_from}
 use Rattle.meaning.proofs.Tests.{bool_or, lt_or}
 use Rattle.sheet.specs.Meaning.{times_of}
+use Rattle.fields.specs.Limits.{task_limit}
 use Rattle.fields.specs.Values.{no_task}
 use Rattle.fields.specs.declared.values.Task.{Task}
 use Rattle.overruns.specs.Releases.{counted_tasks, ProperTasks, work_due, due_after, Advanced, Waiting}
@@ -119,7 +120,7 @@ module _ (tasks : List Task) (old : List ℕ) (t : ℕ) where
   -- before the first task
   pub advancing_start : Advancing tasks old old t 0 0
   unfolding work_due
-  advancing_start = record { few = omega arith; done = record { due = refl; next = λ i h. absurd (omega arith) }; kept = λ m h. refl }
+  advancing_start = record { few = omega arith; done = record { due = refl; next = λ i h. absurd (omega arith); same_length = refl }; kept = λ m h. refl }
 
   module _ (new : List ℕ) (i work : ℕ) (before : Advancing tasks old new t i work) where
     -- a task whose job falls due at t
@@ -136,6 +137,7 @@ module _ (tasks : List Task) (old : List ℕ) (t : ℕ) where
                 (λ same. rw same (get_or-set_same new i later 0 inside ∙ sym (now_due tasks old t i was)))
                 (λ l. get_or-set_other new i m later 0 (λ x. omega (arith, x)) ∙ before.done.next m l)
                 (eq-or-lt_of_le {n = m} {m = i} (omega arith));
+            same_length = length-set new i later ∙ before.done.same_length;
           };
           kept = λ m h. get_or-set_other new i m later 0 (λ x. omega (arith, x)) ∙ before.kept m (omega arith);
         }
@@ -152,6 +154,7 @@ module _ (tasks : List Task) (old : List ℕ) (t : ℕ) where
                 (λ same. rw same (before.kept i (omega arith) ∙ sym (later_due tasks old t i was)))
                 (λ l. before.done.next m l)
                 (eq-or-lt_of_le {n = m} {m = i} (omega arith));
+            same_length = before.done.same_length;
           };
           kept = λ m h. before.kept m (omega arith);
         }
@@ -159,6 +162,10 @@ module _ (tasks : List Task) (old : List ℕ) (t : ℕ) where
 -- ---- the loop over the intervals
 
 module _ (tasks : List Task) (count : ℕ) (proper : ProperTasks tasks count) where
+  -- where every task of an array waits, those that are counted do
+  pub counted_waiting : (dues : List ℕ) → Waiting tasks task_limit dues → Waiting tasks count dues
+  counted_waiting dues waiting = λ i h. waiting i (omega (arith, proper.most))
+
   -- at 0 the next jobs are the first ones
   pub running_start : (dues : List ℕ) → Waiting tasks count dues → Running tasks count dues 0 0
   running_start dues waiting = record {

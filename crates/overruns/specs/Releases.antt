@@ -1,5 +1,5 @@
 -- Fixed demand as the code lets it grow from interval to interval: what falls due at an interval, and when each task's next job does.
-use Rattle.std.specs.Prelude.{◌≡◌, cond, List, ℕ, zero, suc, ◌+◌, ◌-◌, ◌≤◌, ◌<◌, eqb, get_or, take}
+use Rattle.std.specs.Prelude.{◌≡◌, cond, List, ℕ, zero, suc, ◌+◌, ◌-◌, ◌≤◌, ◌<◌, eqb, length, get_or, take}
 use Rattle.meaning.specs.Fixed as fixed
 use Rattle.fields.specs.Limits.{task_limit}
 use Rattle.sheet.specs.Meaning.{each_task}
@@ -29,6 +29,7 @@ due_after tasks dues t i = cond (eqb (get_or dues i 0) t) (t + (get_or tasks i n
 pub record Advanced (tasks : List Task) (count : ℕ) (old new : List ℕ) (t work : ℕ) : Type 0 where
   pub due : work ≡ work_due tasks old t count
   pub next : (i : ℕ) → i < count → get_or new i 0 ≡ due_after tasks old t i
+  pub same_length : length new ≡ length old
 
 -- when a task's first job falls due in an interval that starts with its release, as late as it can be
 abbrev pub first_due : Task → ℕ

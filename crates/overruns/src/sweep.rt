@@ -64,10 +64,10 @@ pub fn sweep<T: Sweepable>(
     requires room { n * (horizon + 1) ≤ length cells.now }
     ensures { IsSwept T.right n tasks.now.tasks tasks.now.count cells.now horizon result }
 {
-    let mut dues = Dues::new(tasks);
+    let mut dues = Dues::new(&tasks.tasks);
     let mut fixed: u64 = 0;
     for t in 1..=horizon {
-        fixed += dues.advance(tasks, t);
+        fixed += dues.advance(&tasks.tasks, tasks.count, t);
         if T::overrun_at(cells, n, t, fixed) {
             return Some(t);
         }

@@ -16,18 +16,17 @@ use fields::values::{Mode, Row, Sheet, Tally, Task};
 
 // In each list below the tests stand one under the other, a test for each rule of the definition, so that their order can be read off.
 
-// The first rules of every known field: its place in the order, its length, its count.
+// The first rules of the field that a tag begins: its place in the order, its length, its count.
 // It is told whether the field is a row whose length is unlike its follower set.
-pub fn judge_field(
-    kind: Kind,
+pub fn judge_tag(
+    tag: usize,
     last: usize,
     size: usize,
     unlike: bool,
     count: usize,
 ) -> Result<(), Reason>
-    ensures { result ≡ first_broken (common_rules (tag_of kind) last size unlike count) }
+    ensures { result ≡ first_broken (common_rules tag last size unlike count) }
 {
-    let tag = usize::from(u8::from(kind));
     if out_of_order(last, tag) {
         return Err(Reason::OutOfOrder);
     }
@@ -41,6 +40,19 @@ pub fn judge_field(
         return Err(Reason::TooMany);
     }
     Ok(())
+}
+
+// The same of a field whose kind is known: its tag is the kind's.
+pub fn judge_field(
+    kind: Kind,
+    last: usize,
+    size: usize,
+    unlike: bool,
+    count: usize,
+) -> Result<(), Reason>
+    ensures { result ≡ first_broken (common_rules (tag_of kind) last size unlike count) }
+{
+    judge_tag(usize::from(u8::from(kind)), last, size, unlike, count)
 }
 
 // The rules of the numbers of a mode, in a field of `size` bytes. Rule 8: a boundary that is not above the one before.

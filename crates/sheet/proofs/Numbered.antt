@@ -22,7 +22,7 @@ use Rattle.fields.specs.declared.values.Tally.{Tally}
 use Rattle.fields.proofs.Deciding.{Kept, of_file, all_kept, neither, both_kept, both_of_file}
 
 module _ (tag last size count : ℕ) (unlike : Bool) where
-  common_of_file : T (of_file (common_rules tag last size unlike count))
+  pub common_of_file : T (of_file (common_rules tag last size unlike count))
   unfolding common_rules
   common_of_file = tt
 
@@ -32,15 +32,15 @@ module _ (tag last size count : ℕ) (unlike : Bool) where
   unfolding common_rules full
   common_says k = (k.0, k.1.0, k.1.1.0, leb-false _ _ k.1.1.1.0)
 
-mode_of_file : (tally : Tally) (mode : Mode) (size : ℕ) → T (of_file (mode_rules tally mode size))
+pub mode_of_file : (tally : Tally) (mode : Mode) (size : ℕ) → T (of_file (mode_rules tally mode size))
 unfolding mode_rules
 mode_of_file tally mode size = tt
 
-row_of_file : (bytes : List ℕ) (tally : Tally) (row : Row) → T (of_file (row_gap_rules bytes tally row))
+pub row_of_file : (bytes : List ℕ) (tally : Tally) (row : Row) → T (of_file (row_gap_rules bytes tally row))
 unfolding row_rules row_gap_rules
 row_of_file bytes tally row = tt
 
-task_of_file : (task : Task) → T (of_file (task_rules task))
+pub task_of_file : (task : Task) → T (of_file (task_rules task))
 unfolding task_rules
 task_of_file task = tt
 
@@ -64,7 +64,7 @@ abbrev pub RowFits : List ℕ → Tally → ℕ → ℕ → Type 0
 RowFits bytes tally start size = (head_size ≤ size) × (size ≡ head_size + gap_size * follower_count (row_at bytes start).followers) × (tally.rows < row_limit)
 
 module _ (bytes : List ℕ) (tally : Tally) (start size : ℕ) where
-  head_of_file : (kind : Kind) → T (of_file (head_rules bytes tally kind start size))
+  pub head_of_file : (kind : Kind) → T (of_file (head_rules bytes tally kind start size))
   unfolding head_rules
   head_of_file RefusedTag = tt
   head_of_file LabelField = common_of_file _ _ _ _ _

@@ -26,7 +26,7 @@ use Rattle.fields.specs.Reading.{word_at}
 use Rattle.fields.specs.declared.values.Row.{Row}
 use Rattle.fields.specs.declared.units.Ticks.{Ticks}
 use Rattle.tables.specs.Followers.{gap_to, Followed}
-use Rattle.tables.specs.Walk.{Taken}
+use Rattle.tables.specs.Walk.{IsLowest, IsPast, Taken}
 use Rattle.tables.specs.declared.walk.Followers.{Followers}
 
 module _ (bytes : List ℕ) (row : Row) where
@@ -90,6 +90,22 @@ module _ (bytes : List ℕ) (n rest place : ℕ) (followed : Followed bytes n re
     inside = omega (arith, followed.inside, one_less);
   }
 
+-- a turn takes the lowest row that is left
+pub lowest_taken : {old new : Followers} {row : ℕ} {gap : Ticks} → Taken old new row gap → IsLowest old row gap
+lowest_taken taken = record { some = taken.some; lowest = taken.lowest; its_gap = taken.its_gap }
+
+-- what is lowest, and is passed, is taken
+pub taken_past : {old new : Followers} {row : ℕ} {gap : Ticks} → IsLowest old row gap → IsPast old new → Taken old new row gap
+taken_past next past = record {
+  some = next.some;
+  lowest = next.lowest;
+  its_gap = next.its_gap;
+  same_file = past.same_file;
+  same_count = past.same_count;
+  cleared = past.cleared;
+  moved = past.moved;
+}
+
 -- nothing is left of a set that is shifted to nothing
 shr_none : (s j : ℕ) → s / 2 ^ j * 2 ^ j ≡ 0 → s / 2 ^ j ≡ 0
 shr_none s j e = sym (shl-shr (s / 2 ^ j) j) ∙ ap (λ (x : ℕ). x / 2 ^ j) e ∙ zero-div (2 ^ j)
@@ -124,11 +140,28 @@ module _ {ℓ} {A : Type ℓ} {f : ℕ → A → A} {a : A} {start now : Followe
       (λ l. omega (arith, b, (all_below walked.left.from start.rest).0 ((shr_zero walked.left.from start.rest).0 (shr_none start.rest walked.left.from (sym walked.left.is ∙ e))) i l))
       (lt_or i walked.left.from)
 
+  -- The lowest row that is left.
+  module _ {row : ℕ} {gap : Ticks} (next : IsLowest now row gap) where
+    -- it is in the set
+    pub lowest_bit : bit start.rest row ≡ 1
+    lowest_bit = rw next.lowest (left_bit f a 64 start.rest now.rest acc walked.fits walked.left next.some)
+
+    -- and one of the rows
+    pub lowest_row : row < start.count
+    lowest_row = start.followed.exist row lowest_bit
+
+    -- its gap is the one to the row
+    pub lowest_gap : gap.0 ≡ gap_to start.bytes.now start.rest start.place row
+    lowest_gap =
+        let place : now.place ≡ start.place + gap_size * below start.rest row =
+        omega (arith, walked.next_gap, left_below f a 64 start.rest now.rest acc walked.fits walked.left next.some, ap (below start.rest) next.lowest) in
+        ap (λ (t : Ticks). t.0) next.its_gap ∙ ap (λ (bytes : List ℕ). word_at bytes now.place) walked.same_file ∙ ap (word_at start.bytes.now) place
+
   -- A turn.
   module _ {after : Followers} {row : ℕ} {gap : Ticks} (taken : Taken now after row gap) where
     -- its row is in the set
     pub walked_bit : bit start.rest row ≡ 1
-    walked_bit = rw taken.lowest (left_bit f a 64 start.rest now.rest acc walked.fits walked.left taken.some)
+    walked_bit = lowest_bit (lowest_taken taken)
 
     -- and one of the rows
     pub walked_row : row < start.count
@@ -136,10 +169,7 @@ module _ {ℓ} {A : Type ℓ} {f : ℕ → A → A} {a : A} {start now : Followe
 
     -- its gap is the one to the row
     pub walked_gap : gap.0 ≡ gap_to start.bytes.now start.rest start.place row
-    walked_gap =
-        let place : now.place ≡ start.place + gap_size * below start.rest row =
-        omega (arith, walked.next_gap, left_below f a 64 start.rest now.rest acc walked.fits walked.left taken.some, ap (below start.rest) taken.lowest) in
-        ap (λ (t : Ticks). t.0) taken.its_gap ∙ ap (λ (bytes : List ℕ). word_at bytes now.place) walked.same_file ∙ ap (word_at start.bytes.now) place
+    walked_gap = lowest_gap (lowest_taken taken)
 
     -- with its row done the next turn begins
     pub walked_more : {other : A} → other ≡ f row acc → Walked f a start after other

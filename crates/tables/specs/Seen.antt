@@ -1,4 +1,4 @@
--- A row of a sheet as the functions of the tables see it: with its job length, by its number.
+-- A row of a sheet as `Rows` has it: with its job length, by its number.
 use Rattle.std.specs.Prelude.{ℕ, get_or}
 use Rattle.fields.specs.Reading.{row_at}
 use Rattle.fields.specs.declared.values.Row.{Row}

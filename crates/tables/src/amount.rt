@@ -1,16 +1,15 @@
 // The table by amount: a line has, for each row, the smallest end time of a sequence from that row with at least the line's amount. Lines count from 0 and amounts from 1.
-ghost use Rattle.std.specs.Prelude.{◌≡◌, ◌+◌, ◌*◌, ◌≤◌, ◌<◌, length};
+ghost use Rattle.std.specs.Prelude.{◌≡◌, ◌+◌, ◌*◌, ◌≤◌, length};
 ghost use Rattle.meaning.specs.Cells.{amount_of};
 ghost use Rattle.meaning.specs.Computed.{cell_for, least_at, min_below, time_or_none};
 ghost use Rattle.meaning.specs.Demand.{no_time};
 ghost use Rattle.sheet.specs.Meaning.{gap_of};
+ghost use Rattle.sheet.specs.Proper.{ProperRow};
 ghost use Rattle.tables.specs.Amounts.{soonest_via};
-ghost use Rattle.tables.specs.Seen.{row_in, work_in};
 
-use crate::rows::Rows;
 use crate::walk::Followers;
 use fields::units::Ticks;
-use fields::values::Sheet;
+use fields::values::{Row, Sheet};
 
 // What stands for a time where there is none. The cells that callers are lent hold it (`no_time`), so a time is no option.
 pub const NO_TIME: u32 = 4294967295;
@@ -29,18 +28,18 @@ pub fn shortest_of(cells: &[u32], n: usize, amount: usize) -> u32
     least
 }
 
-// The cell of the row of a number in a line, from the lines before.
-pub fn least_cell(rows: &Rows, cells: &[u32], number: usize, line: usize) -> u32
-    requires counted { number < rows.now.count }
-    requires room { rows.now.count * line ≤ length cells.now }
-    ensures { result ≡ least_at rows.now.count (work_in rows.now number) (row_in rows.now number).deadline.0 (gap_of rows.now.bytes.now (row_in rows.now number)) (cell_for rows.now.count cells.now) (amount_of line) }
+// The cell of a row with a job length in a line, from the lines before.
+pub fn least_cell(bytes: &[u8], cells: &[u32], row: Row, work: u32, n: usize, line: usize) -> u32
+    requires proper_row { ProperRow bytes.now n row }
+    requires some_work { 1 ≤ work }
+    requires room { n * line ≤ length cells.now }
+    ensures { result ≡ least_at n work row.deadline.0 (gap_of bytes.now row) (cell_for n cells.now) (amount_of line) }
 {
-    let row = rows.row(number);
-    let back = rows.lengths[number] as usize;
+    let back = work as usize;
     if line < back {
         return row.deadline.0 as u32;
     }
-    let followers = Followers::new(rows.bytes, rows.count, row);
+    let followers = Followers::new(bytes, n, row);
     soonest_via(followers, cells, line - back)
 }
 
@@ -52,8 +51,10 @@ fn soonest_via(followers: Followers, cells: &[u32], line: usize) -> u32
     let base = line * followers.count;
     let mut left = followers;
     let mut soonest = NO_TIME;
-    while let Some((row, gap)) = left.next() {
+    // As in the other table, the walk goes on behind the use of the row.
+    while let Some((row, gap)) = left.lowest() {
         soonest = soonest.min(time_via(gap, cells[base + row]));
+        left.pass();
     }
     soonest
 }

@@ -4,14 +4,13 @@ ghost use Rattle.meaning.specs.Computed.{cell_at, max_below};
 ghost use Rattle.fields.specs.Reading.{ticks_at};
 ghost use Rattle.tables.specs.Adding.{added_at, most_added, cell_of};
 ghost use Rattle.sheet.specs.Outline.{Handed};
+ghost use Rattle.sheet.specs.Proper.{ProperRow};
 ghost use Rattle.tables.specs.Laid.{Laid};
-ghost use Rattle.tables.specs.Seen.{row_in, work_in};
 
-use crate::rows::Rows;
 use crate::walk::Followers;
 use fields::reader::word_inside;
 use fields::units::Ticks;
-use fields::values::Sheet;
+use fields::values::{Row, Sheet};
 use modes::job_length;
 use sheet::Head;
 use sheet::rows::row_at;
@@ -30,11 +29,7 @@ pub fn demand_of(cells: &[u32], n: usize, t: usize) -> u32
 }
 
 // The job length of each row.
-pub(crate) fn job_lengths(
-    bytes: &[u8],
-    head: Head,
-    places: &[usize; Sheet::ROWS],
-) -> [u32; Sheet::ROWS]
+pub fn job_lengths(bytes: &[u8], head: Head, places: &[usize; Sheet::ROWS]) -> [u32; Sheet::ROWS]
     requires { Handed bytes.now head places.now }
     ensures { Laid bytes.now places.now result head.tally.rows }
 {
@@ -53,19 +48,18 @@ pub(crate) fn job_lengths(
     lengths
 }
 
-// The cell of the row of a number in the line s, from the lines before.
-pub fn cell(rows: &Rows, cells: &[u32], number: usize, s: usize) -> u32
-    requires counted { number < rows.now.count }
-    requires room { rows.now.count * (s + 1) ≤ length cells.now }
-    requires fits { cell_of rows.now.bytes.now cells.now (row_in rows.now number) (work_in rows.now number) rows.now.count s < 2 ^ 32 }
-    ensures { result ≡ cell_of rows.now.bytes.now cells.now (row_in rows.now number) (work_in rows.now number) rows.now.count s }
+// The cell of a row with a job length in the line s, from the lines before.
+pub fn cell(bytes: &[u8], cells: &[u32], row: Row, work: u32, n: usize, s: usize) -> u32
+    requires proper_row { ProperRow bytes.now n row }
+    requires room { n * (s + 1) ≤ length cells.now }
+    requires fits { cell_of bytes.now cells.now row work n s < 2 ^ 32 }
+    ensures { result ≡ cell_of bytes.now cells.now row work n s }
 {
-    let row = rows.row(number);
     if s < row.deadline.0 as usize {
         return 0;
     }
-    let followers = Followers::new(rows.bytes, rows.count, row);
-    rows.lengths[number] + most_added(followers, cells, s)
+    let followers = Followers::new(bytes, n, row);
+    work + most_added(followers, cells, s)
 }
 
 // The most that a follower adds.
@@ -76,8 +70,10 @@ fn most_added(followers: Followers, cells: &[u32], s: usize) -> u32
     let n = followers.count;
     let mut left = followers;
     let mut most: u32 = 0;
-    while let Some((row, gap)) = left.next() {
+    // The walk goes on behind the use of the row: before it, the compiled loop takes an instruction more for each follower.
+    while let Some((row, gap)) = left.lowest() {
         most = most.max(added(cells, n, s, gap, row));
+        left.pass();
     }
     most
 }

@@ -16,8 +16,10 @@ pub trait Table {
 }
 
 // The table by interval, and the table by amount. They are types alone: no value of them is made.
+#[derive(Clone, Copy)]
 pub struct ByInterval;
 
+#[derive(Clone, Copy)]
 pub struct ByAmount;
 
 impl Table for ByInterval {

@@ -1,5 +1,5 @@
 // A walk over the followers of a row.
-ghost use Rattle.std.specs.Prelude.{◌≡◌, MatchOption};
+ghost use Rattle.std.specs.Prelude.{◌≡◌, ◌≢◌, MatchOption};
 ghost use Rattle.sheet.specs.Proper.{ProperRow};
 ghost use Rattle.tables.specs.Followers.{Followed};
 
@@ -18,7 +18,7 @@ pub struct Followers<'a> {
 }
 
 impl<'a> Followers<'a> {
-    ghost use Rattle.tables.specs.Walk.{Taken};
+    ghost use Rattle.tables.specs.Walk.{IsLowest, IsPast, Taken};
 
     // All followers of a row among `count`.
     #[inline]
@@ -37,18 +37,37 @@ impl<'a> Followers<'a> {
         }
     }
 
-    // The lowest follower that is left, and the gap to it. Its bit is cleared, and the gap of the next one stands two bytes on.
+    // The lowest follower that is left, and the gap to it.
     #[inline]
-    pub fn next(&mut self) -> Option<(usize, Ticks)>
-        ensures { MatchOption result (self.old.rest ≡ 0) (λ one. Taken self.old self.new one.0 one.1) }
+    pub fn lowest(&self) -> Option<(usize, Ticks)>
+        ensures { MatchOption result (self.now.rest ≡ 0) (λ one. IsLowest self.now one.0 one.1) }
     {
         if self.rest == 0 {
             return None;
         }
         let row = u64::trailing_zeros(self.rest) as usize;
-        let gap = gap_at(self.bytes, self.place);
-        self.place += Sheet::GAP;
+        Some((row, gap_at(self.bytes, self.place)))
+    }
+
+    // Goes past the lowest. Its bit is cleared, and the gap of the next one stands two bytes on.
+    #[inline]
+    pub fn pass(&mut self)
+        requires { self.old.rest ≢ 0 }
+        ensures { IsPast self.old self.new }
+    {
         self.rest = self.rest & (self.rest - 1);
-        Some((row, gap))
+        self.place += Sheet::GAP;
+    }
+
+    // The lowest follower that is left, and the gap to it, with the walk gone past it.
+    #[inline]
+    pub fn next(&mut self) -> Option<(usize, Ticks)>
+        ensures { MatchOption result (self.old.rest ≡ 0) (λ one. Taken self.old self.new one.0 one.1) }
+    {
+        let Some(lowest) = self.lowest() else {
+            return None;
+        };
+        self.pass();
+        Some(lowest)
     }
 }

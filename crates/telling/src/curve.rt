@@ -1,6 +1,8 @@
 // The curve up to a horizon, and for a chart also where fixed demand rises.
 ghost use Rattle.std.specs.Prelude.{◌≤◌, ◌≡◌, length};
 ghost use Rattle.meaning.specs.Demand.{longest_time};
+ghost use Rattle.sheet.specs.Judging.{judged};
+ghost use Rattle.sheet.specs.Answer.{Accepted};
 ghost use Rattle.beginning.specs.Beginning.{rows};
 ghost use Rattle.printing.specs.Refusals.{RoomToInterval};
 ghost use Rattle.telling.specs.Told.{CurveTold};
@@ -51,9 +53,10 @@ pub fn rows_of(bytes: &[u8]) -> usize
     }
 }
 
-// A line for each interval up to the horizon at which the demand of the fixed tasks rises; none for a refused sheet.
+// A line for each interval up to the horizon at which the demand of the fixed tasks rises.
 fn print_fixed(rt: &impl Print, bytes: &[u8], horizon: usize) -> io::Result<()>
-    requires { horizon ≤ longest_time }
+    requires accepted { (judged bytes.now).answer ≡ Accepted }
+    requires in_range { horizon ≤ longest_time }
 {
     let Ok(sheet) = judge(bytes) else {
         return Ok(());

@@ -5,6 +5,7 @@ use Rattle.beginning.specs.Beginning.{graph, tasks}
 use Rattle.explain.specs.Calls.{Explains}
 use Rattle.explain.specs.declared.Explained.{Explained}
 use Rattle.explain.specs.declared.Explained.TheVariants.{Holds, NoInterval, Fails}
+use Rattle.explain.specs.declared.Overrun.{Overrun}
 use Rattle.fields.specs.declared.refusal.Refusal.{Refusal}
 use Rattle.printing.specs.Refusals.{bad_interval, RefusedBy}
 
@@ -22,3 +23,7 @@ RowsStand area' (Fails told) = told.count ≤ length area'
 abbrev pub ExplainTold : List ℕ → ℕ → List ℕ → Result Explained Refusal → Type 0
 ExplainTold bytes horizon area' (Ok explained) = WhyTold bytes horizon area' (Ok explained) × RowsStand area' explained
 ExplainTold bytes horizon area' (Err refusal) = RefusedBy bytes (bad_interval horizon) refusal
+
+-- an overrun with the verdict that it is why of, up to some horizon
+abbrev pub OverrunTold : List ℕ → List ℕ → Overrun → Type 0
+OverrunTold bytes area' told = (horizon : ℕ) × ExplainTold bytes horizon area' (Ok (Fails told))

@@ -1,12 +1,12 @@
 // What is printed for the question whether a sheet holds up to a horizon, and why, in cells and an area that are lent.
 #![tactic(auto)]
 
-ghost use Rattle.std.specs.Prelude.{◌≤◌, ◌≡◌, length};
+ghost use Rattle.std.specs.Prelude.{◌≤◌, ◌≡◌, length, Ok};
 ghost use Rattle.meaning.specs.Demand.{longest_time};
 ghost use Rattle.fields.specs.Limits.{task_limit};
 ghost use Rattle.sheet.specs.Judging.{judged};
 ghost use Rattle.printing.specs.Refusals.{RoomToInterval};
-ghost use Rattle.telling_why.specs.Told.{RowsStand, ExplainTold};
+ghost use Rattle.telling_why.specs.Told.{ExplainTold, OverrunTold};
 
 use explain::{Cause, Explained, Overrun, explain};
 use fields::refusal::Refusal;
@@ -38,10 +38,7 @@ fn print_answer(
     requires { ExplainTold bytes.now horizon area.now answer }
 {
     match answer {
-        Ok(explained) => {
-            print_head(rt, bytes, "horizon", horizon)?;
-            print_explained(rt, bytes, explained, area)
-        }
+        Ok(explained) => print_explained(rt, bytes, horizon, explained, area),
         Err(refusal) => rt.println(refusal),
     }
 }
@@ -49,11 +46,13 @@ fn print_answer(
 fn print_explained(
     rt: &impl Print,
     bytes: &[u8],
+    horizon: u64,
     explained: Explained,
     area: &[u8],
 ) -> io::Result<()>
-    requires { RowsStand area.now explained }
+    requires { ExplainTold bytes.now horizon area.now (Ok explained) }
 {
+    print_head(rt, bytes, "horizon", horizon)?;
     match explained {
         Explained::Holds { margin, interval } => {
             println!(rt; "holds\nmargin {margin} at {interval}")
@@ -64,7 +63,7 @@ fn print_explained(
 }
 
 fn print_overrun(rt: &impl Print, bytes: &[u8], overrun: Overrun, area: &[u8]) -> io::Result<()>
-    requires { overrun.count ≤ length area.now }
+    requires { OverrunTold bytes.now area.now overrun }
 {
     println!(rt; "fails {}", overrun.interval)?;
     print_cause(rt, overrun.cause)?;

@@ -4,22 +4,33 @@ use native.Mathlib.Omega.{arith}
 use mathlib.Core.Path.{◌≡◌, ◌∙◌, refl, sym, ap}
 use mathlib.Core.List.{List, [], ◌∷◌, ◌++◌, append_assoc}
 use mathlib.Core.Bool.{true, false}
+use lib.Dec.{T}
 use lib.ListN.{length}
 use Rattle.std.specs.Prelude.{Ok}
 use Rattle.fields.specs.Deciding.{Rule, ◌when◌, pick, first_broken}
 use Rattle.fields.specs.Fields.{line_of, fields}
 use Rattle.fields.specs.Limits.{mode_limit, row_limit, task_limit, label_limit}
-use Rattle.rules.specs.Rules.{out_of_order, follower_count, common_rules}
+use Rattle.fields.specs.Values.{short_size}
+use Rattle.rules.specs.Rules.{out_of_order, follower_count, common_rules, text_rules, row_rules}
 use Rattle.fields.specs.declared.units.Rpm.{Rpm}
 use Rattle.fields.specs.declared.units.Ticks.{Ticks}
 use Rattle.fields.specs.declared.values.Mode.{Mode}
 use Rattle.fields.specs.declared.values.Task.{Task}
 use Rattle.fields.specs.declared.values.Tally.{Tally}
-use Rattle.fields.proofs.Deciding.{Kept, all_kept, both_kept, pass}
-use Rattle.sheet.proofs.Numbered.{common_says, row_length}
+use Rattle.fields.proofs.Deciding.{Kept, of_file, all_kept, both_kept, both_of_file, pass}
+use Rattle.sheet.proofs.Numbered.{mode_of_file, task_of_file, common_says, row_length}
 use Rattle.written.specs.Judging.{row_size, entry_rules, count_entry, entries_rules, count_entries, no_tally, unknown_among, end_rules, values_rules}
-use Rattle.written.specs.Values.{Values, Entry, LabelEntry, ModeEntry, RowEntry, TaskEntry, entries}
+use Rattle.written.specs.Values.{Values, Entry, LabelEntry, ModeEntry, RowEntry, TaskEntry, CutEntry, entries}
 use Rattle.written.proofs.FieldBytes.{short_enough}
+
+-- every rule has a reason for which a file is refused
+pub entry_of_file : (tally : Tally) (entry : Entry) → T (of_file (entry_rules tally entry))
+unfolding entry_rules common_rules text_rules row_rules
+entry_of_file tally (LabelEntry text) = tt
+entry_of_file tally (ModeEntry mode) = mode_of_file tally mode (short_size mode)
+entry_of_file tally (RowEntry speed deadline followers gaps) = tt
+entry_of_file tally (TaskEntry task) = task_of_file task
+entry_of_file tally (CutEntry tag) = tt
 
 pub entry_kept : (tally : Tally) (entry : Entry) → first_broken (entry_rules tally entry) ≡ Ok tt → Kept (entry_rules tally entry)
 entry_kept tally entry none = all_kept (entry_rules tally entry) none
@@ -45,8 +56,21 @@ module _ (tally : Tally) where
   unfolding entry_rules line_of fields
   task_says task kept = (common_says _ _ _ _ _ (both_kept (common_rules 4 _ _ _ _) _ kept).0).3
 
+pub entries_of_file : (tally : Tally) (entries : List Entry) → T (of_file (entries_rules tally entries))
+unfolding entries_rules
+entries_of_file tally [] = tt
+entries_of_file tally (entry ∷ more) = both_of_file (entry_rules tally entry) _ (entry_of_file tally entry) (entries_of_file (count_entry tally entry) more)
+
 pub entries_kept : (tally : Tally) (entries : List Entry) → first_broken (entries_rules tally entries) ≡ Ok tt → Kept (entries_rules tally entries)
 entries_kept tally entries none = all_kept (entries_rules tally entries) none
+
+pub end_of_file : (tally : Tally) (sets : List ℕ) → T (of_file (end_rules tally sets))
+unfolding end_rules common_rules
+end_of_file tally sets = tt
+
+pub values_of_file : (values : Values) → T (of_file (values_rules values))
+unfolding values_rules
+values_of_file values = both_of_file (entries_rules no_tally (entries values)) _ (entries_of_file no_tally (entries values)) (end_of_file _ values.sets)
 
 -- rules one behind the other: none of the first is broken, and none behind
 first_none : (first behind : List Rule) → first_broken (first ++ behind) ≡ Ok tt → first_broken first ≡ Ok tt

@@ -1,13 +1,14 @@
 -- `look_over` meets its contract. Fixed demand runs along with the intervals, none of those passed is overrun, and the smallest margin is theirs.
 use Prim.Native.Nat.{◌+◌, ◌^◌, ◌<◌}
 use native.Mathlib.Omega.{arith}
+use Rattle.overruns.proofs.Releases.{counted_waiting}
 use Rattle.overruns.proofs.Sweeping.{fixed_few}
 use Rattle.explain.proofs.Narrowing.{looking_start, looking_smaller, looking_kept, looking_overrun, looking_done}
 use Rattle.explain.proofs.looking.look_over.Goals.{After-advance-fixed, then-margin-least, else-margin-least, else-loop-t-test, then-loop-t-test+else-t-work+else-t-horizon}
 use Rattle.explain.proofs.looking.look_over.Goals as goal
 
 pub loop-t-init : goal.loop-t-init
-loop-t-init c = looking_start _ _ _ _ c.args.tasks.now.proper _ c.requires.in_range _ c.new-dues.ensures
+loop-t-init c = looking_start _ _ _ _ c.args.tasks.now.proper _ c.requires.in_range _ (counted_waiting _ _ c.args.tasks.now.proper _ c.new-dues.ensures.waiting)
 
 -- fixed demand at the interval
 small : (c : After-advance-fixed) → c.loop-t.fixed + c.advance-fixed.result < 2 ^ 48

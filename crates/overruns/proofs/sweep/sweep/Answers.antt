@@ -1,13 +1,14 @@
 -- `sweep` meets its contract. Fixed demand runs along with the intervals, and none of those passed is overrun.
 use Prim.Native.Nat.{◌+◌, ◌^◌, ◌<◌}
 use native.Mathlib.Omega.{arith}
+use Rattle.overruns.proofs.Releases.{counted_waiting}
 use Rattle.overruns.proofs.Sweeping.{Sweeping, sweeping_start, fixed_few, sweeping_on, sweeping_overrun, sweeping_holds}
 use Rattle.overruns.proofs.sweep.sweep.Given.{Over}
 use Rattle.overruns.proofs.sweep.sweep.Goals.{After-advance-fixed, Else-overrun_at}
 use Rattle.overruns.proofs.sweep.sweep.Goals as goal
 
 pub loop-t-init : goal.loop-t-init
-loop-t-init g c = sweeping_start _ _ _ c.args.tasks.now.proper _ c.new-dues.ensures
+loop-t-init g c = sweeping_start _ _ _ c.args.tasks.now.proper _ (counted_waiting _ _ c.args.tasks.now.proper _ c.new-dues.ensures.waiting)
 
 -- fixed demand at the interval
 small : (g : Over) (c : After-advance-fixed g) → c.loop-t.fixed + c.advance-fixed.result < 2 ^ 48

@@ -6,4 +6,4 @@ use Rattle.tables.proofs.Storing.{Stored}
 use Rattle.overruns.proofs.running.Dues.new.Given as goal
 
 abbrev pub invariant-loop-number : goal.invariant-loop-number
-invariant-loop-number l = Stored (λ m. first_due (get_or l.tasks.tasks m no_task)) task_limit l.next l.number
+invariant-loop-number l = Stored (λ m. first_due (get_or l.tasks m no_task)) task_limit l.next l.number
