@@ -114,9 +114,11 @@ fn fill_blocks<T: Fillable>(rows: &Rows, cells: &mut [u32], lines: usize) -> usi
     ensures at_most { result ≤ lines }
     ensures filled { Filled rows.now.count (T.right (graph rows.now.bytes.now)) cells.old cells.new (rows.now.count * result) }
 {
+    // A copy of its own, which no write into the cells can change, so that the compiled loops read it once.
+    let own = *rows;
     let blocks = lines / BLOCK;
     for block in 0..blocks {
-        fill_block::<T>(rows, cells, block * BLOCK);
+        fill_block::<T>(&own, cells, block * BLOCK);
     }
     blocks * BLOCK
 }
@@ -146,7 +148,8 @@ fn put_column(cells: &mut [u32], n: usize, line: usize, k: usize, column: [u32; 
     }
 }
 
-// Fills the lines from one on, one at a time, where the lines before are filled.
+// Fills the lines from one on, one at a time, where the lines before are filled. In the compiled `fill` the blocks would leave it too few registers.
+#[inline(never)]
 fn fill_lines<T: Fillable>(rows: &Rows, cells: &mut [u32], first: usize, lines: usize)
     requires first_le_lines { first ≤ lines }
     requires in_range { lines ≤ longest_time + 1 }

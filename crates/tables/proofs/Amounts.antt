@@ -1,8 +1,8 @@
--- What one follower gives in the table by amount, and that the soonest over the rows of the set is the soonest over all rows of the graph.
+-- What one follower gives in the table by amount, what the sooner of two gives, and that the soonest over the rows of the set is the soonest over all rows of the graph.
 use mathlib.Core.Path.{◌≡◌, refl, sym, ap, ◌∙◌}
 use mathlib.Core.Logic.{⊎_elim}
 use mathlib.Core.List.{List}
-use Prim.Native.Nat.{ℕ, ◌+◌, ◌-◌, ◌^◌, ◌≤◌, ◌<◌}
+use Prim.Native.Nat.{ℕ, ◌+◌, ◌-◌, ◌^◌, ◌≤◌, ◌<◌, min}
 use native.Mathlib.Omega.{arith}
 use Rattle.sets.specs.Sets.{bit}
 use Rattle.sets.proofs.Bits.{bit_or, bit_zero_past}
@@ -13,7 +13,7 @@ use Rattle.meaning.specs.Computed.{cell_at, cell_for, min_below, time_or_none, v
 use Rattle.meaning.specs.Demand.{no_time, IsShortest}
 use Rattle.meaning.proofs.Tests.{le_or}
 use Rattle.meaning.proofs.Folds.{min_skip}
-use Rattle.meaning.proofs.ByAmount.{via_least_is, via_least_none, shortest_is}
+use Rattle.meaning.proofs.ByAmount.{time_or, via_least_is, via_least_none, shortest_is}
 use Rattle.sheet.specs.Meaning.{gap_of}
 use Rattle.sheet.specs.Proper.{ProperRow}
 use Rattle.fields.specs.declared.values.Row.{Row}
@@ -21,6 +21,10 @@ use Rattle.tables.specs.Followers.{gap_to}
 use Rattle.tables.specs.Lines.{HasLines}
 use Rattle.tables.specs.Amounts.{soonest_via}
 use Rattle.tables.proofs.Followers.{gap_of_follower, gap_of_other, gap_positive}
+
+-- the sooner of two times is tried for being too long like each of them
+pub sooner_or_none : (a b : ℕ) → time_or_none (min a b) ≡ min (time_or_none a) (time_or_none b)
+sooner_or_none a b = grind (arith, time_or a, time_or b, time_or (min a b))
 
 module _ (bytes : List ℕ) (n : ℕ) (row : Row) (proper : ProperRow bytes n row) (fits : row.followers < 2 ^ 64) (cells : List ℕ) (left : ℕ) where
   -- the time by way of row j

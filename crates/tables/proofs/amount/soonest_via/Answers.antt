@@ -1,7 +1,10 @@
 -- `soonest_via` meets its contract. What is left of the walk and the soonest so far go together.
+use mathlib.Core.Path.{sym, ◌∙◌}
 use native.Mathlib.Omega.{arith}
+use Rattle.meaning.proofs.ByAmount.{time_kept, time_none}
 use Rattle.tables.specs.Amounts.{soonest_via}
 use Rattle.tables.proofs.Followers.{walked_none, walked_all, walked_gap, walked_more, lowest_row, taken_past}
+use Rattle.tables.proofs.Amounts.{sooner_or_none}
 use Rattle.tables.proofs.Lines.{in_lines}
 use Rattle.tables.proofs.amount.soonest_via.Goals as goal
 
@@ -18,8 +21,12 @@ pub loop-row-preserved : goal.loop-row-preserved
 loop-row-preserved c =
     let taken = taken_past c.in-Some.ensures c.pass.ensures in
     let gap = walked_gap c.loop-row.invariant taken in
-    walked_more c.loop-row.invariant taken (rw (c.min-soonest.ensures, c.time_via.ensures, gap))
+    walked_more c.loop-row.invariant taken (rw (c.min-soonest.ensures, gap) (sooner_or_none _ _))
+
+pub returns-then-soonest : goal.returns-then-soonest
+unfolding soonest_via
+returns-then-soonest c = sym (time_kept c.loop-row.soonest (omega (arith, c.if-soonest.true))) ∙ walked_all c.loop-row.invariant c.in_default.ensures
 
 pub returns : goal.returns
 unfolding soonest_via
-returns c = walked_all c.loop-row.invariant c.in_default.ensures
+returns c = sym (time_none c.loop-row.soonest (omega (arith, c.if-soonest.false))) ∙ walked_all c.loop-row.invariant c.in_default.ensures
