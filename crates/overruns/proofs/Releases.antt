@@ -120,7 +120,7 @@ module _ (tasks : List Task) (old : List ℕ) (t : ℕ) where
   -- before the first task
   pub advancing_start : Advancing tasks old old t 0 0
   unfolding work_due
-  advancing_start = record { few = omega arith; done = record { due = refl; next = λ i h. absurd (omega arith); same_length = refl }; kept = λ m h. refl }
+  advancing_start = record { few = omega arith; done = record { due = refl; next = λ i h. absurd (omega arith) }; kept = λ m h. refl }
 
   module _ (new : List ℕ) (i work : ℕ) (before : Advancing tasks old new t i work) where
     -- a task whose job falls due at t
@@ -137,7 +137,6 @@ module _ (tasks : List Task) (old : List ℕ) (t : ℕ) where
                 (λ same. rw same (get_or-set_same new i later 0 inside ∙ sym (now_due tasks old t i was)))
                 (λ l. get_or-set_other new i m later 0 (λ x. omega (arith, x)) ∙ before.done.next m l)
                 (eq-or-lt_of_le {n = m} {m = i} (omega arith));
-            same_length = length-set new i later ∙ before.done.same_length;
           };
           kept = λ m h. get_or-set_other new i m later 0 (λ x. omega (arith, x)) ∙ before.kept m (omega arith);
         }
@@ -154,10 +153,33 @@ module _ (tasks : List Task) (old : List ℕ) (t : ℕ) where
                 (λ same. rw same (before.kept i (omega arith) ∙ sym (later_due tasks old t i was)))
                 (λ l. before.done.next m l)
                 (eq-or-lt_of_le {n = m} {m = i} (omega arith));
-            same_length = before.done.same_length;
           };
           kept = λ m h. before.kept m (omega arith);
         }
+
+-- the same in place: there are as many due times as before
+pub record AdvancingInPlace (tasks : List Task) (old new : List ℕ) (t i work : ℕ) : Type 0 where
+  pub advancing : Advancing tasks old new t i work
+  pub same_length : length new ≡ length old
+
+module _ (tasks : List Task) (old : List ℕ) (t : ℕ) where
+  -- before the first task
+  pub in_place_start : AdvancingInPlace tasks old old t 0 0
+  in_place_start = record { advancing = advancing_start tasks old t; same_length = refl }
+
+  module _ (new : List ℕ) (i work : ℕ) (before : AdvancingInPlace tasks old new t i work) where
+    -- a task whose job falls due at t
+    pub in_place_now : get_or new i 0 ≡ t → i < length new → (get_or tasks i no_task).length.0 ≤ longest_time
+        → AdvancingInPlace tasks old (set new i (t + (get_or tasks i no_task).period.0)) t (i + 1) (work + (get_or tasks i no_task).length.0)
+    in_place_now e inside most =
+        record {
+          advancing = advancing_now tasks old t new i work before.advancing e inside most;
+          same_length = length-set new i (t + (get_or tasks i no_task).period.0) ∙ before.same_length;
+        }
+
+    -- another
+    pub in_place_later : (get_or new i 0 ≡ t → ⊥) → AdvancingInPlace tasks old new t (i + 1) work
+    in_place_later other = record { advancing = advancing_later tasks old t new i work before.advancing other; same_length = before.same_length }
 
 -- ---- the loop over the intervals
 

@@ -29,6 +29,10 @@ due_after tasks dues t i = cond (eqb (get_or dues i 0) t) (t + (get_or tasks i n
 pub record Advanced (tasks : List Task) (count : ℕ) (old new : List ℕ) (t work : ℕ) : Type 0 where
   pub due : work ≡ work_due tasks old t count
   pub next : (i : ℕ) → i < count → get_or new i 0 ≡ due_after tasks old t i
+
+-- the same in place: there are as many due times as before
+pub record AdvancedInPlace (tasks : List Task) (count : ℕ) (old new : List ℕ) (t work : ℕ) : Type 0 where
+  pub advanced : Advanced tasks count old new t work
   pub same_length : length new ≡ length old
 
 -- when a task's first job falls due in an interval that starts with its release, as late as it can be

@@ -2,7 +2,7 @@
 ghost use Rattle.std.specs.Prelude.{◌≡◌, ◌+◌, ◌≤◌, length};
 ghost use Rattle.meaning.specs.Demand.{longest_time};
 ghost use Rattle.fields.specs.Limits.{task_limit};
-ghost use Rattle.overruns.specs.Releases.{Waiting, Advanced};
+ghost use Rattle.overruns.specs.Releases.{Waiting, AdvancedInPlace};
 
 use crate::tasks::first_due;
 use fields::values::{Sheet, Task};
@@ -31,7 +31,7 @@ impl Dues {
     pub fn advance(&mut self, tasks: &[Task; Sheet::TASKS], count: usize, t: usize) -> u64
         requires few_tasks { count ≤ task_limit }
         requires in_range { t ≤ longest_time }
-        ensures { Advanced tasks.now count self.old.next self.new.next t result }
+        ensures { AdvancedInPlace tasks.now count self.old.next self.new.next t result }
     {
         let mut work: u64 = 0;
         for number in 0..count {

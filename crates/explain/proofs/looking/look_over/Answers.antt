@@ -12,7 +12,7 @@ loop-t-init c = looking_start _ _ _ _ c.args.tasks.now.proper _ c.requires.in_ra
 
 -- fixed demand at the interval
 small : (c : After-advance-fixed) → c.loop-t.fixed + c.advance-fixed.result < 2 ^ 48
-small c = fixed_few _ _ _ c.args.tasks.now.proper c.args.horizon _ _ _ c.loop-t.invariant.sweeping _ _ c.advance-fixed.ensures (omega (arith, c.requires.in_range, c.loop-t-test.true))
+small c = fixed_few _ _ _ c.args.tasks.now.proper c.args.horizon _ _ _ c.loop-t.invariant.sweeping _ _ c.advance-fixed.ensures.advanced (omega (arith, c.requires.in_range, c.loop-t-test.true))
 
 pub overflow_add-fixed : goal.overflow_add-fixed
 overflow_add-fixed c = omega (arith, small c)
@@ -23,15 +23,15 @@ overflow_add-work c = omega (arith, small (goal.at.overflow_add-work c).After-ad
 pub returns-then-t-work : goal.returns-then-t-work
 returns-then-t-work c =
     looking_overrun _ _ _ _ c.args.tasks.now.proper _ c.requires.in_range _ _ _ _ _ c.loop-t.invariant c.loop-t-test.true
-    _ _ c.advance-fixed.ensures _ c.demand_of.ensures (omega (arith, c.if-t-work.true))
+    _ _ c.advance-fixed.ensures.advanced _ c.demand_of.ensures (omega (arith, c.if-t-work.true))
 
 pub loop-t-preserved : goal.loop-t-preserved
 loop-t-preserved c =
     elim c.if-margin-least.branch [
       | then-margin-least w ↦ rw (w.least-is, w.at-is) (looking_smaller _ _ _ _ c.args.tasks.now.proper _ c.requires.in_range _ _ _ _ _ c.loop-t.invariant c.loop-t-test.true
-          _ _ c.advance-fixed.ensures _ c.demand_of.ensures (omega (arith, c.if-t-work.false)) (omega (arith, w.if-margin-least.true)))
+          _ _ c.advance-fixed.ensures.advanced _ c.demand_of.ensures (omega (arith, c.if-t-work.false)) (omega (arith, w.if-margin-least.true)))
       | else-margin-least w ↦ rw (w.least-is, w.at-is) (looking_kept _ _ _ _ c.args.tasks.now.proper _ c.requires.in_range _ _ _ _ _ c.loop-t.invariant c.loop-t-test.true
-          _ _ c.advance-fixed.ensures _ c.demand_of.ensures (omega (arith, c.if-t-work.false)) (omega (arith, w.if-margin-least.false)))
+          _ _ c.advance-fixed.ensures.advanced _ c.demand_of.ensures (omega (arith, c.if-t-work.false)) (omega (arith, w.if-margin-least.false)))
     ]
 
 -- the horizon was 0, or its interval came last
@@ -48,13 +48,13 @@ returns c =
                 rw (v.least-is, v.at-is)
                 (looking_done _ _ _ _ c.args.tasks.now.proper _ c.requires.in_range _ _ _ _ _
                 (looking_smaller _ _ _ _ c.args.tasks.now.proper _ c.requires.in_range _ _ _ _ _ c.loop-t.invariant w.loop-t-test.true
-                _ _ w.advance-fixed.ensures _ w.demand_of.ensures (omega (arith, w.if-t-work.false)) (omega (arith, v.if-margin-least.true)))
+                _ _ w.advance-fixed.ensures.advanced _ w.demand_of.ensures (omega (arith, w.if-t-work.false)) (omega (arith, v.if-margin-least.true)))
                 (omega arith))
             | else-margin-least v ↦
                 rw (v.least-is, v.at-is)
                 (looking_done _ _ _ _ c.args.tasks.now.proper _ c.requires.in_range _ _ _ _ _
                 (looking_kept _ _ _ _ c.args.tasks.now.proper _ c.requires.in_range _ _ _ _ _ c.loop-t.invariant w.loop-t-test.true
-                _ _ w.advance-fixed.ensures _ w.demand_of.ensures (omega (arith, w.if-t-work.false)) (omega (arith, v.if-margin-least.false)))
+                _ _ w.advance-fixed.ensures.advanced _ w.demand_of.ensures (omega (arith, w.if-t-work.false)) (omega (arith, v.if-margin-least.false)))
                 (omega arith))
           ])
     ])

@@ -5,12 +5,12 @@ use mathlib.Core.Path.{◌≡◌, refl}
 use Rattle.std.proofs.Common.{rules}
 use Rattle.fields.specs.Values.{no_task}
 use Rattle.fields.specs.declared.values.Task.{Task}
-use Rattle.overruns.proofs.Releases.{advancing_start, advancing_now, advancing_later}
+use Rattle.overruns.proofs.Releases.{in_place_start, in_place_now, in_place_later}
 use Rattle.overruns.proofs.running.Dues.advance.Goals.{then-self-number, else-self-number}
 use Rattle.overruns.proofs.running.Dues.advance.Goals as goal
 
 pub loop-number-init : goal.loop-number-init
-loop-number-init c = advancing_start _ _ _
+loop-number-init c = in_place_start _ _ _
 
 pub loop-number-preserved : goal.loop-number-preserved
 loop-number-preserved c =
@@ -20,6 +20,6 @@ loop-number-preserved c =
       | then-self-number w ↦
           let a_period_later : c.if-self-number.self.next ≡ set l.self.next l.number (c.args.t + task.period.0) = rw w.self-is refl in
           let its_length_more : c.if-self-number.work ≡ l.work + task.length.0 = w.work-is in
-          rw (a_period_later, its_length_more) (advancing_now _ _ _ _ _ _ l.invariant w.if-self-number.true (search rules) (search rules))
-      | else-self-number w ↦ rw (w.self-is, w.work-is) (advancing_later _ _ _ _ _ _ l.invariant w.if-self-number.false)
+          rw (a_period_later, its_length_more) (in_place_now _ _ _ _ _ _ l.invariant w.if-self-number.true (search rules) (search rules))
+      | else-self-number w ↦ rw (w.self-is, w.work-is) (in_place_later _ _ _ _ _ _ l.invariant w.if-self-number.false)
     ]
